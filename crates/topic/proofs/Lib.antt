@@ -1,0 +1,5 @@
+pub mod Places
+pub mod Scan
+pub mod Positions
+pub mod Levels
+pub mod Oasis

@@ -1,0 +1,3 @@
+pub mod Topic
+pub mod Walk
+pub mod Mqtt47

@@ -1,0 +1,49 @@
+-- Levels by their places in a text, and the walk of a match over them: document 01, "A match takes one level at a time".
+use Prim.Native.Nat.{ℕ, _+_}
+use mathlib.Core.Bool.{Bool, true, false, cond}
+use mathlib.Core.List.{List, [], _∷_}
+use lib.Dec.{eqb, leb, ltb}
+use lib.ListN.{length, drop}
+use Rattle.topic.specs.Topic.{Level, slash, levels, ends, passes}
+use Rattle.topic.specs.declared.Passed.{Passed}
+use Rattle.topic.specs.declared.Passed.the-variants.{Onward, Stop, Answer}
+use Rattle.topic.specs.declared.Walk.{Walk}
+
+-- a text up to its first `/`
+unfoldable pub firstLevel : List ℕ → Level
+firstLevel [] = []
+firstLevel (b ∷ text) = cond (eqb b slash) [] (b ∷ firstLevel text)
+
+-- the level that begins at a place; the empty list past the text, where `levelsAt` has no level
+unfoldable pub levelAt : List ℕ → ℕ → Level
+levelAt text at = firstLevel (drop at text)
+
+-- where that level ends, and where the next begins: one past its end, be there a `/` or not
+unfoldable pub levelEnd : List ℕ → ℕ → ℕ
+levelEnd text at = at + length (levelAt text at)
+
+unfoldable pub nextLevel : List ℕ → ℕ → ℕ
+nextLevel text at = levelEnd text at + 1
+
+-- the levels from a place on: past the text there are none
+unfoldable pub levelsAt : List ℕ → ℕ → List Level
+levelsAt text at = cond (leb at (length text)) (levels (drop at text)) []
+
+-- the walk with its answer
+unfoldable pub answered : Walk → Bool → Walk
+answered w taken = record { filter = w .filter; text = w .text; done = true; taken = taken }
+
+-- the walk after one level of the filter and one of the text, by what they come to
+unfoldable pub advanced : List ℕ → List ℕ → Walk → Passed → Walk
+advanced filter text w Onward =
+    record { filter = nextLevel filter (w .filter); text = nextLevel text (w .text); done = w .done; taken = w .taken }
+advanced filter text w Stop = answered w (ends (levelsAt filter (nextLevel filter (w .filter))))
+advanced filter text w (Answer taken) = answered w taken
+
+-- the walk after one more level; a walk that is done stays as it is
+unfoldable pub stepped : Bool → List ℕ → List ℕ → Walk → Walk
+stepped guarded filter text w =
+    cond (w .done) w
+    (cond (ltb (length text) (w .text)) (answered w (ends (levelsAt filter (w .filter))))
+    (cond (ltb (length filter) (w .filter)) (answered w false)
+    (advanced filter text w (passes guarded (levelAt filter (w .filter)) (levelAt text (w .text))))))
