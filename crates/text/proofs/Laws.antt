@@ -12,7 +12,7 @@ use lib.ListN.{length, take, drop, getD, set, length-append, length-drop, drop-o
 use lib.Seq.{drop-cons, drop-drop, take-at, drop-at, set-split}
 use Rattle.text.specs.declared.Replaced.{Replaced}
 use Rattle.text.specs.declared.Replaced.the-variants.{Length, TooLong}
-use Rattle.text.specs.Text.{same, begins, contains, occurs, replaceFrom, replace, fitted, written}
+use Rattle.text.specs.Text.{same, begins, contains, occurs, replaceFrom, replace, fitted, written, fitsAt, pasted}
 
 -- ---- tests
 
@@ -391,3 +391,13 @@ pub wrote-all : {result before buffer : List ℕ} {n : ℕ} → Wrote result bef
 wrote-all {result} {before} w =
     let all : w .front ≡ result = sym (append-nil (w .front)) ∙ w .done in
     rw (written-fits result before (w .room), ← all, w .count) (w .whole)
+
+-- a paste, with room for it and without
+pub pasted-fits : (at : ℕ) (source buffer : List ℕ) → at + length source ≤ length buffer
+    → pasted at source buffer ≡ take at buffer ++ (source ++ drop (at + length source) buffer)
+unfolding pasted fitsAt
+pasted-fits at source buffer h = rw (le-leb (at + length source) (length buffer) h)
+
+pub pasted-not : (at : ℕ) (source buffer : List ℕ) → length buffer < at + length source → pasted at source buffer ≡ buffer
+unfolding pasted fitsAt
+pasted-not at source buffer h = rw (lt-leb (at + length source) (length buffer) h)

@@ -1,9 +1,9 @@
 -- Equality, search and replace on bytes: document 01, Bytes.
-use Prim.Native.Nat.{ℕ, zero, suc, _-_}
+use Prim.Native.Nat.{ℕ, zero, suc, _+_, _-_}
 use mathlib.Core.Bool.{Bool, true, false, _&&_, _||_, cond}
 use mathlib.Core.List.{List, [], _∷_, _++_}
 use lib.Dec.{eqb, leb}
-use lib.ListN.{length, drop}
+use lib.ListN.{length, take, drop}
 use Rattle.text.specs.declared.Replaced.{Replaced}
 use Rattle.text.specs.declared.Replaced.the-variants.{Length, TooLong}
 
@@ -51,3 +51,11 @@ fitted result room = cond (leb (length result) room) (Length (length result)) To
 -- a buffer with the result at its front and the rest as it was; where the result is longer, all as it was
 unfoldable pub written : List ℕ → List ℕ → List ℕ
 written result buffer = cond (leb (length result) (length buffer)) (result ++ drop (length result) buffer) buffer
+
+-- is there room for the source from a place of the buffer on?
+unfoldable pub fitsAt : ℕ → List ℕ → List ℕ → Bool
+fitsAt at source buffer = leb (at + length source) (length buffer)
+
+-- the buffer with the source from that place on, the rest as it was; without room for it, all as it was
+unfoldable pub pasted : ℕ → List ℕ → List ℕ → List ℕ
+pasted at source buffer = cond (fitsAt at source buffer) (take at buffer ++ (source ++ drop (at + length source) buffer)) buffer

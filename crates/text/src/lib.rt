@@ -98,6 +98,21 @@ fn put(source: &[u8], buffer: &mut [u8], at: usize)
     }
 }
 
+// Writes the source into the buffer from `at` on, where it fits there; else the buffer is unchanged. Answers whether it fitted.
+pub fn paste(source: &[u8], buffer: &mut [u8], at: usize) -> bool
+    ensures { λ r. ⌜ r ≡ spec.fitsAt at (now (source .entry)) (now (buffer .entry)) ⌝ }
+    ensures { λ r. ⌜ now (buffer .exit) ≡ spec.pasted at (now (source .entry)) (now (buffer .entry)) ⌝ }
+{
+    if buffer.len() < at {
+        return false;
+    }
+    if buffer.len() - at < source.len() {
+        return false;
+    }
+    put(source, buffer, at);
+    true
+}
+
 // Writes the text with `new` for each occurrence of the pattern to the front of the buffer, which has room for it.
 fn write_replaced(text: &[u8], pattern: &[u8], new: &[u8], buffer: &mut [u8])
     requires { ⌜ length (spec.replace (now pattern) (now new) (now text)) ≤ length (now buffer) ⌝ }

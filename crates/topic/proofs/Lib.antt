@@ -3,3 +3,4 @@ pub mod Scan
 pub mod Positions
 pub mod Levels
 pub mod Oasis
+pub mod Examples

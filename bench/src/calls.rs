@@ -1,0 +1,51 @@
+//! What is timed: for each kind the port's call, the original's, and none.
+
+use std::hint::black_box;
+use std::str::FromStr;
+
+use rmqtt::topic::Topic;
+
+use crate::inputs::Input;
+
+pub const KINDS: [&str; 4] = ["V", "T", "P", "P-parsed"];
+
+/// What the original does in each kind, for the reader of the table.
+pub const LEGEND: &str = "\
+V         valid filter: Topic::from_str
+T         tree match: Topic::from_str of the text, then a tree with one filter, built beforehand
+P         plain match: Topic::from_str of the filter, then matches_str
+P-parsed  plain match: matches_str of a filter that was parsed beforehand";
+
+/// Goes through the inputs until `n` calls are made; the number of yes.
+fn repeat(inputs: &[Input], n: usize, call: impl Fn(&Input) -> bool) -> usize {
+    let mut yes = 0;
+    for i in 0..n {
+        let input = black_box(&inputs[i % inputs.len()]);
+        yes += black_box(call(input)) as usize;
+    }
+    yes
+}
+
+fn checked(text: &str) -> Topic {
+    Topic::from_str(text).unwrap_or_else(|_| Topic::from(Vec::new()))
+}
+
+/// Makes exactly `n` calls. The side is `port`, `rust`, or `none`, which makes
+/// the same loop without a call.
+pub fn run(kind: &str, side: &str, inputs: &[Input], n: usize) -> usize {
+    match (kind, side) {
+        (_, "none") => repeat(inputs, n, |_| true),
+        ("V", "port") => repeat(inputs, n, |i| port::valid_filter(i.checked.as_bytes())),
+        ("V", "rust") => repeat(inputs, n, |i| Topic::from_str(&i.checked).is_ok()),
+        ("T", "port") => repeat(inputs, n, |i| port::tree_match(i.filter.as_bytes(), i.text.as_bytes())),
+        ("T", "rust") => repeat(inputs, n, |i| i.tree.is_match(&checked(&i.text))),
+        ("P" | "P-parsed", "port") => {
+            repeat(inputs, n, |i| port::plain_match(i.filter.as_bytes(), i.text.as_bytes()))
+        }
+        ("P", "rust") => {
+            repeat(inputs, n, |i| Topic::from_str(&i.filter).is_ok_and(|topic| topic.matches_str(&i.text)))
+        }
+        ("P-parsed", "rust") => repeat(inputs, n, |i| i.topic.matches_str(&i.text)),
+        (kind, side) => panic!("no such call: {kind} {side}"),
+    }
+}

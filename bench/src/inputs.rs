@@ -1,0 +1,86 @@
+//! The inputs: filters and texts of three sizes, each with texts that match and
+//! texts that don't. Both matches give them the same answer.
+
+use std::str::FromStr;
+
+use rmqtt::topic::Topic;
+use rmqtt::trie::TopicTree;
+
+pub struct Input {
+    pub filter: String,
+    pub text: String,
+    /// For V: the filter itself, or with one byte more, which makes it invalid.
+    pub checked: String,
+    pub topic: Topic,
+    pub tree: TopicTree<Option<u8>>,
+}
+
+impl Input {
+    fn new(filter: &str, text: &str, answer: bool) -> Input {
+        let topic = Topic::from_str(filter).expect("a filter");
+        let mut tree = TopicTree::default();
+        tree.insert(&topic, None);
+        let checked = if answer { filter.into() } else { format!("{filter}+") };
+        Input { filter: filter.into(), text: text.into(), checked, topic, tree }
+    }
+}
+
+pub const SIZES: [&str; 3] = ["short", "typical", "long"];
+
+/// Filter, a text that matches, and one that doesn't, by its end.
+const SHORT: [[&str; 3]; 4] = [
+    ["bench/g7/set", "bench/g7/set", "bench/g7/get"],
+    ["bench/+/set", "bench/g7/set", "bench/g7/get"],
+    ["bench/g7/#", "bench/g7/on", "bench/g70/on"],
+    ["+/g7/start", "bench/g7/start", "bench/g7/starts"],
+];
+
+const TYPICAL: [[&str; 3]; 4] = [
+    [
+        "shop/berlin/bench07/generator3/sweep",
+        "shop/berlin/bench07/generator3/sweep",
+        "shop/berlin/bench07/generator3/level",
+    ],
+    [
+        "shop/+/bench07/+/sweep/frequency",
+        "shop/berlin/bench07/generator3/sweep/frequency",
+        "shop/berlin/bench07/generator3/sweep/amplitude",
+    ],
+    [
+        "shop/berlin/bench07/generator3/#",
+        "shop/berlin/bench07/generator3/sweep/step",
+        "shop/berlin/bench07/generator4/sweep/step",
+    ],
+    [
+        "+/hamburg/bench11/analyser/trace",
+        "shop/hamburg/bench11/analyser/trace",
+        "shop/hamburg/bench11/analyser/traces",
+    ],
+];
+
+/// 256 bytes in 16 levels: as it stands, with wildcards, and with another end.
+fn long() -> [[String; 3]; 3] {
+    let levels: Vec<String> = (0..16).map(|n| format!("level-{n:02}-of-16x")).collect();
+    let text = format!("{}.", levels.join("/"));
+    assert_eq!(text.len(), 256);
+    let other = format!("{}!", &text[..text.len() - 1]);
+    let plus = text.replace("level-03-of-16x", "+").replace("level-11-of-16x", "+");
+    let hash = format!("{}#", &text[..text.find("level-15").expect("the last level")]);
+    let earlier = other.replace("level-14", "level-41");
+    [[text.clone(), text.clone(), other.clone()], [plus, text.clone(), other], [hash, text, earlier]]
+}
+
+pub fn inputs(size: &str, answer: bool) -> Vec<Input> {
+    let pick = |filter: &str, yes: &str, no: &str| Input::new(filter, if answer { yes } else { no }, answer);
+    let inputs: Vec<Input> = match size {
+        "short" => SHORT.iter().map(|[f, yes, no]| pick(f, yes, no)).collect(),
+        "typical" => TYPICAL.iter().map(|[f, yes, no]| pick(f, yes, no)).collect(),
+        "long" => long().iter().map(|[f, yes, no]| pick(f, yes, no)).collect(),
+        other => panic!("no inputs of size {other}"),
+    };
+    for i in &inputs {
+        assert_eq!(i.topic.matches_str(&i.text), answer, "{} on {}", i.filter, i.text);
+        assert_eq!(Topic::from_str(&i.checked).is_ok(), answer, "{}", i.checked);
+    }
+    inputs
+}

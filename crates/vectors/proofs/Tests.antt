@@ -1,0 +1,44 @@
+-- What a line's first field and its last come to, by the tests that the code makes. Assumes nothing.
+use Prim.Native.Nat.{ℕ}
+use native.Mathlib.Omega.{arith}
+use mathlib.Core.Path.{_≡_, refl, sym, ap, _∙_}
+use mathlib.Core.Bool.{Bool, not, cond}
+use mathlib.Core.List.{List, [], _∷_}
+use lib.ListN.{length, getD}
+use borrow.Author.Tests.{ne-eqb}
+use Rattle.text.specs.Ascii.{ascii}
+use Rattle.text.specs.Text.{same}
+use Rattle.text.proofs.Laws.{same-lengths}
+use Rattle.vectors.specs.declared.judging.Kind.{Kind}
+use Rattle.vectors.specs.declared.judging.Named.{Named}
+use Rattle.vectors.specs.declared.judging.Named.the-variants.{Nothing}
+use Rattle.vectors.specs.declared.judging.Judged.the-variants.{Malformed}
+use Rattle.vectors.specs.Fields.{field}
+use Rattle.vectors.specs.Judging.{kindOf, verdict, compared, judgeNamed, judge}
+
+-- a word of one byte is that byte
+pub kind-letter : (word : List ℕ) → length word ≡ 1 → {b : ℕ} → getD word 0 0 ≡ b → kindOf word ≡ kindOf (b ∷ [])
+kind-letter [] l e = absurd (omega arith)
+kind-letter (a ∷ []) l e = ap (λ b. kindOf (b ∷ [])) e
+kind-letter (a ∷ b ∷ word) l e = absurd (omega arith)
+
+pub kind-other : (word : List ℕ) → length word ≡ 1 →
+    (getD word 0 0 ≡ 86 → ⊥) → (getD word 0 0 ≡ 84 → ⊥) → (getD word 0 0 ≡ 80 → ⊥) → kindOf word ≡ Nothing
+unfolding kindOf same
+kind-other word l v t p = kind-letter word l refl ∙ (rw (ne-eqb _ _ v, ne-eqb _ _ t, ne-eqb _ _ p))
+
+-- a word of another length is none
+pub kind-long : (word : List ℕ) → (length word ≡ 1 → ⊥) → kindOf word ≡ Nothing
+unfolding kindOf
+kind-long word l = rw (same-lengths word (ascii "V") l, same-lengths word (ascii "T") l, same-lengths word (ascii "P") l)
+
+pub compared-by : (kind : Kind) (answer : Bool) (recorded : List ℕ) {yes no : Bool} →
+    same recorded (ascii "yes") ≡ yes → same recorded (ascii "no") ≡ no →
+    compared kind answer recorded ≡ cond yes (verdict kind answer) (cond no (verdict kind (not answer)) Malformed)
+unfolding compared
+compared-by kind answer recorded e f = rw (e, f)
+
+-- the line by what its first field names
+pub judge-by : (line word : List ℕ) {named n : Named} → named ≡ kindOf word → word ≡ field 0 line → named ≡ n → judge line ≡ judgeNamed line n
+unfolding judge
+judge-by line word e w f = ap (judgeNamed line) (sym (e ∙ ap kindOf w) ∙ f)

@@ -1,0 +1,73 @@
+-- The first field names the kind, and each arm has its function. Assumes nothing.
+use mathlib.Core.Path.{sym, ap, _∙_}
+use Rattle.vectors.specs.declared.judging.Named.the-variants.{Of}
+use Rattle.vectors.specs.Judging.{judgeNamed}
+use Rattle.vectors.proofs.Tests.{judge-by}
+use borrow.Author.Needs.{needs}
+use Rattle.vectors.proofs.judging.judge.Statement.{statement}
+use Rattle.vectors.proofs.judging.judge.Tie as tie
+
+field-requires : tie.Need-field-requires
+field-requires c κs = search needs
+
+kind-of-requires : tie.Need-kind-of-requires
+kind-of-requires c κs = search needs
+
+enum-told : tie.Need-enum-told
+enum-told c = search needs
+
+enum-known-kind : tie.Need-enum-known-kind
+enum-known-kind c = search needs
+
+enum-told-2 : tie.Need-enum-told-2
+enum-told-2 c = search needs
+
+valid-line-requires : tie.Need-valid-line-requires
+valid-line-requires c κs = search needs
+
+enum-told-3 : tie.Need-enum-told-3
+enum-told-3 c = search needs
+
+tree-line-requires : tie.Need-tree-line-requires
+tree-line-requires c κs = search needs
+
+enum-told-4 : tie.Need-enum-told-4
+enum-told-4 c = search needs
+
+plain-line-requires : tie.Need-plain-line-requires
+plain-line-requires c κs = search needs
+
+returns : tie.Need-returns
+unfolding judgeNamed
+returns c = sym (judge-by _ _ (c .before .before .kind-of .ensures) (c .before .before .before .field .ensures) (c .enum-told .given .1))
+
+returns-2 : tie.Need-returns-2
+unfolding judgeNamed
+returns-2 c = c .valid-line .ensures ∙ sym (judge-by _ _ (c .before .before .before .before .before .before .kind-of .ensures) (c .before .before .before .before .before .before .before .field .ensures) (c .before .before .before .before .kind .given .1 ∙ ap Of (c .before .enum-told2 .given .1)))
+
+returns-3 : tie.Need-returns-3
+unfolding judgeNamed
+returns-3 c = c .tree-line .ensures ∙ sym (judge-by _ _ (c .before .before .before .before .before .before .kind-of .ensures) (c .before .before .before .before .before .before .before .field .ensures) (c .before .before .before .before .kind .given .1 ∙ ap Of (c .before .enum-told3 .given .1)))
+
+returns-4 : tie.Need-returns-4
+unfolding judgeNamed
+returns-4 c = c .plain-line .ensures ∙ sym (judge-by _ _ (c .before .before .before .before .before .before .kind-of .ensures) (c .before .before .before .before .before .before .before .field .ensures) (c .before .before .before .before .kind .given .1 ∙ ap Of (c .before .enum-told4 .given .1)))
+
+pub judge-spec : {M : Type 1} → statement M
+judge-spec =
+    tie.close
+    (tie.spec
+    field-requires
+    kind-of-requires
+    enum-told
+    enum-known-kind
+    enum-told-2
+    valid-line-requires
+    enum-told-3
+    tree-line-requires
+    enum-told-4
+    plain-line-requires
+    returns
+    returns-2
+    returns-3
+    returns-4)

@@ -1,0 +1,23 @@
+-- A recorded line: its fields have a TAB between them (oracle/README.md).
+use Prim.Native.Nat.{ℕ, zero, suc}
+use mathlib.Core.Bool.{cond}
+use mathlib.Core.List.{List, [], _∷_}
+use lib.Dec.{eqb}
+
+abbrev pub tab : ℕ
+tab = 9
+
+-- what stands behind the first n TABs; nothing where there are fewer
+unfoldable pub rest : ℕ → List ℕ → List ℕ
+rest zero line = line
+rest (suc n) [] = []
+rest (suc n) (b ∷ line) = cond (eqb b tab) (rest n line) (rest (suc n) line)
+
+-- what stands before the first TAB; all where there is none
+unfoldable pub first : List ℕ → List ℕ
+first [] = []
+first (b ∷ text) = cond (eqb b tab) [] (b ∷ first text)
+
+-- the field behind n TABs
+unfoldable pub field : ℕ → List ℕ → List ℕ
+field n line = first (rest n line)

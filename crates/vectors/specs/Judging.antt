@@ -1,0 +1,45 @@
+-- What a recorded line means, and whether the definitions of document 01 give its answer.
+use Prim.Native.Nat.{ℕ}
+use mathlib.Core.Bool.{Bool, not, cond}
+use mathlib.Core.List.{List}
+use Rattle.text.specs.Ascii.{ascii}
+use Rattle.text.specs.Text.{same}
+use Rattle.topic.specs.Topic.{validFilter, treeMatch, plainMatch}
+use Rattle.vectors.specs.Fields.{rest, field}
+use Rattle.vectors.specs.declared.judging.Kind.{Kind}
+use Rattle.vectors.specs.declared.judging.Kind.the-variants.{Valid, Tree, Plain}
+use Rattle.vectors.specs.declared.judging.Named.{Named}
+use Rattle.vectors.specs.declared.judging.Named.the-variants.{Of, Nothing}
+use Rattle.vectors.specs.declared.judging.Judged.{Judged}
+use Rattle.vectors.specs.declared.judging.Judged.the-variants.{Agrees, Differs, Malformed}
+
+-- the kind that the first field names
+unfoldable pub kindOf : List ℕ → Named
+kindOf word =
+    cond (same word (ascii "V")) (Of Valid)
+    (cond (same word (ascii "T")) (Of Tree)
+    (cond (same word (ascii "P")) (Of Plain) Nothing))
+
+abbrev pub verdict : Kind → Bool → Judged
+verdict kind agrees = cond agrees (Agrees kind) (Differs kind)
+
+-- a recorded answer is `yes` or `no`
+unfoldable pub compared : Kind → Bool → List ℕ → Judged
+compared kind answer recorded =
+    cond (same recorded (ascii "yes")) (verdict kind answer)
+    (cond (same recorded (ascii "no")) (verdict kind (not answer)) Malformed)
+
+-- what a line of this kind asks, and its recorded answer: `V`, text, answer; `T`, filter, text, answer; `P` likewise. The answer is all
+-- that is left of the line, so that no field is left over
+unfoldable pub asked : List ℕ → Kind → Judged
+asked line Valid = compared Valid (validFilter (field 1 line)) (rest 2 line)
+asked line Tree = compared Tree (treeMatch (field 1 line) (field 2 line)) (rest 3 line)
+asked line Plain = compared Plain (plainMatch (field 1 line) (field 2 line)) (rest 3 line)
+
+-- what a line comes to
+unfoldable pub judgeNamed : List ℕ → Named → Judged
+judgeNamed line (Of kind) = asked line kind
+judgeNamed line Nothing = Malformed
+
+unfoldable pub judge : List ℕ → Judged
+judge line = judgeNamed line (kindOf (field 0 line))

@@ -1,0 +1,42 @@
+// The fields of a recorded line, which have a TAB between them. `judging` reads a line by them.
+ghost use mathlib.Core.Path.{_≡_};
+ghost use Rattle.vectors.specs.Fields as spec;
+
+// What stands behind the first `n` TABs of the line; nothing where it has fewer.
+pub fn rest(line: &[u8], n: usize) -> &[u8]
+    ensures { λ r. ⌜ now r ≡ spec.rest n (now (line .entry)) ⌝ }
+{
+    let mut left = n;
+    let mut i = 0;
+    while i < line.len() {
+        if left == 0 {
+            return &line[i..];
+        }
+        if line[i] == b'\t' {
+            left -= 1;
+        }
+        i += 1;
+    }
+    &line[i..]
+}
+
+// What stands before the first TAB of the text; all of it where it has none.
+fn first(text: &[u8]) -> &[u8]
+    ensures { λ r. ⌜ now r ≡ spec.first (now (text .entry)) ⌝ }
+{
+    let mut i = 0;
+    while i < text.len() {
+        if text[i] == b'\t' {
+            return &text[..i];
+        }
+        i += 1;
+    }
+    text
+}
+
+// The field of the line behind `n` TABs.
+pub fn field(line: &[u8], n: usize) -> &[u8]
+    ensures { λ r. ⌜ now r ≡ spec.field n (now (line .entry)) ⌝ }
+{
+    first(rest(line, n))
+}

@@ -1,0 +1,102 @@
+// What a recorded line asks, and whether this port gives its answer. A further kind of line is a variant of `Kind`, a letter in
+// `kind_of`, a function of its own and an arm of `judge`, a clause each in specs/Judging.antt, and a place in `tallies`.
+use crate::fields::field;
+use crate::fields::rest;
+ghost use mathlib.Core.Path.{_≡_};
+ghost use Rattle.vectors.specs.Judging as spec;
+
+// The kinds of questions: is it a valid filter (`V`), Tree match (`T`), Plain match (`P`).
+pub enum Kind {
+    Valid,
+    Tree,
+    Plain,
+}
+
+// What the first field of a line names.
+pub enum Named {
+    Of(Kind),
+    Nothing,
+}
+
+// What a line comes to.
+pub enum Judged {
+    Agrees(Kind),
+    Differs(Kind),
+    Malformed,
+}
+
+// The kind that the first field of a line names.
+fn kind_of(word: &[u8]) -> Named
+    ensures { λ r. ⌜ r ≡ spec.kindOf (now (word .entry)) ⌝ }
+{
+    if word.len() != 1 {
+        return Named::Nothing;
+    }
+    match word[0] {
+        b'V' => Named::Of(Kind::Valid),
+        b'T' => Named::Of(Kind::Tree),
+        b'P' => Named::Of(Kind::Plain),
+        _ => Named::Nothing,
+    }
+}
+
+// A line of this kind that agrees, or that doesn't.
+fn verdict(kind: Kind, agrees: bool) -> Judged
+    ensures { λ r. ⌜ r ≡ spec.verdict kind agrees ⌝ }
+{
+    if agrees {
+        return Judged::Agrees(kind);
+    }
+    Judged::Differs(kind)
+}
+
+// The answer to a question of this kind against the recorded one.
+fn compared(kind: Kind, answer: bool, recorded: &[u8]) -> Judged
+    ensures { λ r. ⌜ r ≡ spec.compared kind answer (now (recorded .entry)) ⌝ }
+{
+    if text::same(recorded, b"yes") {
+        return verdict(kind, answer);
+    }
+    if text::same(recorded, b"no") {
+        return verdict(kind, !answer);
+    }
+    Judged::Malformed
+}
+
+// A line `V`, text, answer.
+fn valid_line(line: &[u8]) -> Judged
+    ensures { λ r. ⌜ r ≡ spec.asked (now (line .entry)) Kind.Valid ⌝ }
+{
+    let answer = topic::valid_filter(field(line, 1));
+    compared(Kind::Valid, answer, rest(line, 2))
+}
+
+// A line `T`, filter, text, answer.
+fn tree_line(line: &[u8]) -> Judged
+    ensures { λ r. ⌜ r ≡ spec.asked (now (line .entry)) Kind.Tree ⌝ }
+{
+    let answer = topic::tree_match(field(line, 1), field(line, 2));
+    compared(Kind::Tree, answer, rest(line, 3))
+}
+
+// A line `P`, filter, text, answer.
+fn plain_line(line: &[u8]) -> Judged
+    ensures { λ r. ⌜ r ≡ spec.asked (now (line .entry)) Kind.Plain ⌝ }
+{
+    let answer = topic::plain_match(field(line, 1), field(line, 2));
+    compared(Kind::Plain, answer, rest(line, 3))
+}
+
+// Does the line's answer agree with what this port answers?
+pub fn judge(line: &[u8]) -> Judged
+    ensures { λ r. ⌜ r ≡ spec.judge (now (line .entry)) ⌝ }
+{
+    match kind_of(field(line, 0)) {
+        Named::Nothing => Judged::Malformed,
+        Named::Of(kind) => match kind {
+            Kind::Valid => valid_line(line),
+            Kind::Tree => tree_line(line),
+            Kind::Plain => plain_line(line),
+        },
+    }
+}

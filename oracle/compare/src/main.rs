@@ -1,0 +1,67 @@
+//! compare [SECONDS] [--seed N] [--length N]
+//!
+//! Compares the port's exported functions with the original Rust: V, whether a
+//! text is a valid filter; T, the tree match; P, the plain match. First all
+//! texts over `a $ + # /`, for T and P up to the length, for V three longer;
+//! then random ones for SECONDS. Exit status 1 if anything differs.
+
+mod phases;
+mod tally;
+
+use std::process::ExitCode;
+use std::time::{Duration, Instant};
+
+use tally::{grouped, Tally};
+
+struct Options {
+    seconds: u64,
+    seed: u64,
+    length: usize,
+}
+
+fn options() -> Result<Options, String> {
+    let mut options = Options { seconds: 60, seed: 1, length: 7 };
+    let mut args = std::env::args().skip(1);
+    let number = |arg: Option<String>| -> Result<u64, String> {
+        let arg = arg.ok_or("a number is missing")?;
+        arg.parse().map_err(|_| format!("not a number: {arg}"))
+    };
+    while let Some(arg) = args.next() {
+        match arg.as_str() {
+            "--seed" => options.seed = number(args.next())?,
+            "--length" => options.length = number(args.next())? as usize,
+            _ => options.seconds = number(Some(arg))?,
+        }
+    }
+    Ok(options)
+}
+
+fn phase(name: &str, all: &mut Tally, run: impl FnOnce() -> Tally) {
+    let begin = Instant::now();
+    let tally = run();
+    let seconds = begin.elapsed().as_secs_f64();
+    println!("{name}: {} cases, {seconds:.1} s", grouped(tally.total()));
+    all.add(tally);
+}
+
+fn main() -> ExitCode {
+    let Options { seconds, seed, length } = match options() {
+        Ok(options) => options,
+        Err(error) => {
+            eprintln!("compare [SECONDS] [--seed N] [--length N]: {error}");
+            return ExitCode::from(2);
+        }
+    };
+    let mut all = Tally::default();
+    let longer = length + 3;
+    phase(&format!("V, all texts up to {longer} bytes"), &mut all, || phases::short_filters(longer));
+    phase(&format!("T and P, all pairs up to {length} bytes"), &mut all, || phases::short_pairs(length));
+    let until = Instant::now() + Duration::from_secs(seconds);
+    phase(&format!("V, T and P, random, seed {seed}"), &mut all, || phases::random(seed, until));
+    println!("\n{all}");
+    if all.differences() == 0 {
+        ExitCode::SUCCESS
+    } else {
+        ExitCode::FAILURE
+    }
+}

@@ -1,0 +1,97 @@
+//! What is compared: everything that is short, then random inputs. Each phase
+//! is split into blocks, which the threads take in turn.
+
+use std::sync::atomic::{AtomicUsize, Ordering};
+use std::thread;
+use std::time::Instant;
+
+use oracle::cases::Kind;
+use oracle::generate::{self, Random, ALPHABET};
+use oracle::matching::{self, checked, filter, tree};
+
+use crate::tally::Tally;
+
+/// Hands the blocks 0, 1, 2, .. to the processors until one says that there are
+/// no more.
+fn in_blocks(block: impl Fn(usize, &mut Tally) -> bool + Sync) -> Tally {
+    let next = AtomicUsize::new(0);
+    let work = || {
+        let mut tally = Tally::default();
+        while block(next.fetch_add(1, Ordering::Relaxed), &mut tally) {}
+        tally
+    };
+    let mut sum = Tally::default();
+    let threads = thread::available_parallelism().map_or(2, |n| n.get());
+    thread::scope(|scope| {
+        let workers: Vec<_> = (0..threads).map(|_| scope.spawn(work)).collect();
+        for worker in workers {
+            sum.add(worker.join().expect("a worker"));
+        }
+    });
+    sum
+}
+
+fn compare_valid(text: &str, tally: &mut Tally) {
+    let rust = filter(text).is_some();
+    tally.count(Kind::V, text, "", rust, port::valid_filter(text.as_bytes()));
+}
+
+/// V: all texts up to this length.
+pub fn short_filters(length: usize) -> Tally {
+    const BLOCK: usize = 1 << 14;
+    let mut tally = Tally::default();
+    for length in 0..=length {
+        let texts = ALPHABET.len().pow(length as u32);
+        tally.add(in_blocks(|block, tally| {
+            let first = block * BLOCK;
+            for n in first..texts.min(first + BLOCK) {
+                compare_valid(&generate::nth_text(length, n), tally);
+            }
+            first < texts
+        }));
+    }
+    tally
+}
+
+/// T and P: each valid filter with each text, up to this length.
+pub fn short_pairs(length: usize) -> Tally {
+    let texts = generate::all_texts(length);
+    let levels: Vec<_> = texts.iter().map(|t| checked(t)).collect();
+    let filters: Vec<_> = texts.iter().filter_map(|t| Some((t, filter(t)?))).collect();
+    in_blocks(|block, tally| {
+        let Some((f, topic)) = filters.get(block) else { return false };
+        let tree = tree(topic);
+        for (text, levels) in texts.iter().zip(&levels) {
+            let port = port::tree_match(f.as_bytes(), text.as_bytes());
+            tally.count(Kind::T, f, text, tree.is_match(levels), port);
+            let port = port::plain_match(f.as_bytes(), text.as_bytes());
+            tally.count(Kind::P, f, text, topic.matches_str(text), port);
+        }
+        true
+    })
+}
+
+/// V, T and P of random filters and texts, until the time is up.
+pub fn random(seed: u64, until: Instant) -> Tally {
+    in_blocks(|block, tally| {
+        let mut r = Random::of_block(seed, block as u64);
+        for _ in 0..1000 {
+            let f = generate::filter(&mut r);
+            compare_valid(&f, tally);
+            for _ in 0..4 {
+                let text = generate::text(&mut r, &f);
+                compare_valid(&text, tally);
+                compare_pair(&f, &text, tally);
+            }
+        }
+        Instant::now() < until
+    })
+}
+
+fn compare_pair(f: &str, text: &str, tally: &mut Tally) {
+    let Some(topic) = filter(f) else { return };
+    let rust = matching::tree(&topic).is_match(&checked(text));
+    tally.count(Kind::T, f, text, rust, port::tree_match(f.as_bytes(), text.as_bytes()));
+    let rust = topic.matches_str(text);
+    tally.count(Kind::P, f, text, rust, port::plain_match(f.as_bytes(), text.as_bytes()));
+}

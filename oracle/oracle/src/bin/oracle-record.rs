@@ -1,0 +1,9 @@
+//! oracle-record
+//!
+//! Writes the sample of the Rust's answers (`record::sample`).
+
+use std::io::{self, Write};
+
+fn main() -> io::Result<()> {
+    io::stdout().write_all(oracle::record::sample().as_bytes())
+}

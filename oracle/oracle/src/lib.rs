@@ -1,0 +1,14 @@
+//! The original Rust, asked. Nothing here decides about access: every answer is
+//! one of `Topic`, `TopicTree`, `AclHandler::hook` or `AuthInfo`.
+
+pub mod cases;
+pub mod decide;
+pub mod generate;
+pub mod matching;
+pub mod perclient;
+pub mod record;
+
+/// One thread, so that the plugin's spawned task runs only while it is awaited.
+pub fn runtime() -> tokio::runtime::Runtime {
+    tokio::runtime::Builder::new_current_thread().build().expect("a runtime")
+}
