@@ -1,0 +1,11 @@
+pub mod Examples
+pub mod LineLaws
+pub mod Utf8Laws
+pub mod PieceLaws
+pub mod StringLaws
+pub mod ScanLaws
+pub mod NumberLaws
+pub mod StepLaws
+pub mod ValueLaws
+pub mod AccessSteps
+pub mod AccessLaws

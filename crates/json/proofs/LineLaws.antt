@@ -1,0 +1,149 @@
+-- Laws of lines by their places: the line at a place, and the lines behind it. Assumes nothing.
+use Prim.Native.Nat.{ℕ, suc, _+_, _-_, _≤_, _<_}
+use native.Mathlib.Numerals.{add-one}
+use native.Mathlib.Omega.{arith}
+use mathlib.Core.Path.{_≡_, refl, sym, ap}
+use mathlib.Core.Bool.{Bool, true, false, cond}
+use mathlib.Core.List.{List, [], _∷_}
+use lib.Dec.{eqb, ltb}
+use lib.ListN.{length, getD, take, drop, length-drop, drop-of-length-le}
+use lib.Seq.{drop-cons, drop-drop}
+use borrow.Author.Tests.{eq-eqb, ne-eqb, ltb-true, ltb-false}
+use Rattle.json.specs.Lines.{lf, extendLine, withByte, lines, firstLine, lineAt, nextLine, countUpTo}
+
+-- past the text there is no line
+pub lines-past : (text : List ℕ) (at : ℕ) → length text ≤ at → lines (drop at text) ≡ []
+unfolding lines
+lines-past text at h = rw (drop-of-length-le text {i = at} h)
+
+-- where a line ends, byte by byte
+pub end-past : (text : List ℕ) (at : ℕ) → length text ≤ at → at + length (lineAt text at) ≡ at
+unfolding lineAt firstLine
+end-past text at h = rw (drop-of-length-le text {i = at} h) (omega arith)
+
+pub end-lf : (text : List ℕ) (at : ℕ) → at < length text → getD text at 0 ≡ lf → at + length (lineAt text at) ≡ at
+unfolding lineAt firstLine
+end-lf text at h e = rw (drop-cons text at 0 h, eq-eqb (getD text at 0) lf e) (omega arith)
+
+pub end-onward : (text : List ℕ) (at : ℕ) → at < length text → (getD text at 0 ≡ lf → ⊥) →
+    at + length (lineAt text at) ≡ at + 1 + length (lineAt text (at + 1))
+unfolding lineAt firstLine
+end-onward text at h e = rw (add-one, drop-cons text at 0 h, ne-eqb (getD text at 0) lf e) (omega arith)
+
+-- a line is what stands from its place up to where it ends, within the text
+first-part : (text : List ℕ) → take (length (firstLine text)) text ≡ firstLine text
+unfolding firstLine
+first-part [] = refl
+first-part (b ∷ text) = at (eqb b lf) (first-part text)
+  where
+    at : (e : Bool) → take (length (firstLine text)) text ≡ firstLine text
+        → take (length (cond e [] (b ∷ firstLine text))) (b ∷ text) ≡ cond e [] (b ∷ firstLine text)
+    at true h = refl
+    at false h = ap (λ (l : List ℕ). b ∷ l) h
+
+first-within : (text : List ℕ) → length (firstLine text) ≤ length text
+unfolding firstLine
+first-within [] = omega arith
+first-within (b ∷ text) = at (eqb b lf) (first-within text)
+  where
+    at : (e : Bool) → length (firstLine text) ≤ length text → length (cond e [] (b ∷ firstLine text)) ≤ suc (length text)
+    at true h = omega arith
+    at false h = omega arith
+
+pub line-part : (text : List ℕ) (at : ℕ) → take (at + length (lineAt text at) - at) (drop at text) ≡ lineAt text at
+unfolding lineAt
+line-part text at = rw sized (first-part (drop at text))
+  where
+    sized : at + length (firstLine (drop at text)) - at ≡ length (firstLine (drop at text))
+    sized = omega arith
+
+pub line-past : (text : List ℕ) (at : ℕ) → length text ≤ at → lineAt text at ≡ []
+unfolding lineAt firstLine
+line-past text at h = rw (drop-of-length-le text {i = at} h)
+
+pub line-within : (text : List ℕ) (at : ℕ) → at ≤ length text → at + length (lineAt text at) ≤ length text
+unfolding lineAt
+line-within text at h = omega (arith, first-within (drop at text), length-drop at text)
+
+-- the next line, by whether the line ends before the text
+pub next-by : (text : List ℕ) (at : ℕ) {within : Bool} → ltb (at + length (lineAt text at)) (length text) ≡ within →
+    nextLine text at ≡ cond within (at + length (lineAt text at) + 1) (length text)
+unfolding nextLine
+next-by text at e = λ i. cond (e i) (at + length (lineAt text at) + 1) (length text)
+
+pub next-within : (text : List ℕ) (at : ℕ) → nextLine text at ≤ length text
+next-within text at = is (ltb (at + length (lineAt text at)) (length text)) refl
+  where
+    is : (t : Bool) → ltb (at + length (lineAt text at)) (length text) ≡ t → nextLine text at ≤ length text
+    is true e = rw (next-by text at e) (omega (arith, ltb-true (at + length (lineAt text at)) (length text) e))
+    is false e = rw (next-by text at e) (omega arith)
+
+pub next-after : (text : List ℕ) (at : ℕ) → at < length text → at < nextLine text at
+next-after text at h = is (ltb (at + length (lineAt text at)) (length text)) refl
+  where
+    is : (t : Bool) → ltb (at + length (lineAt text at)) (length text) ≡ t → at < nextLine text at
+    is true e = rw (next-by text at e) (omega arith)
+    is false e = rw (next-by text at e) (omega arith)
+
+next-drop : (text : List ℕ) (at : ℕ) → drop (suc (length (lineAt text at))) (drop at text) ≡ drop (nextLine text at) text
+next-drop text at = is (ltb (at + length (lineAt text at)) (length text)) refl
+  where
+    is : (t : Bool) → ltb (at + length (lineAt text at)) (length text) ≡ t
+        → drop (suc (length (lineAt text at))) (drop at text) ≡ drop (nextLine text at) text
+    is true e =
+        let same : at + suc (length (lineAt text at)) ≡ at + length (lineAt text at) + 1 = omega arith in
+        rw (next-by text at e, drop-drop, same)
+    is false e =
+        rw (next-by text at e, drop-drop, drop-of-length-le text {i = at + suc (length (lineAt text at))} (omega (arith, ltb-false (at + length (lineAt text at)) (length text) e)))
+        (sym (drop-of-length-le text {i = length text} (omega arith)))
+
+-- the first line, and the others
+first-extended : (b : ℕ) (text : List ℕ) → extendLine b (lines text) ≡ (b ∷ firstLine text) ∷ lines (drop (suc (length (firstLine text))) text)
+unfolding lines firstLine withByte extendLine
+first-extended b [] = refl
+first-extended b (a ∷ text) = at (eqb a lf) (first-extended a text)
+  where
+    at : (e : Bool) → extendLine a (lines text) ≡ (a ∷ firstLine text) ∷ lines (drop (suc (length (firstLine text))) text)
+        → extendLine b (cond e ([] ∷ lines text) (extendLine a (lines text)))
+        ≡ (b ∷ cond e [] (a ∷ firstLine text)) ∷ lines (drop (suc (length (cond e [] (a ∷ firstLine text)))) (a ∷ text))
+    at true h = refl
+    at false h = rw h
+
+lines-first : (b : ℕ) (text : List ℕ) → lines (b ∷ text) ≡ firstLine (b ∷ text) ∷ lines (drop (suc (length (firstLine (b ∷ text)))) (b ∷ text))
+unfolding lines firstLine withByte
+lines-first b text = at (eqb b lf)
+  where
+    at : (e : Bool) → cond e ([] ∷ lines text) (extendLine b (lines text))
+        ≡ cond e [] (b ∷ firstLine text) ∷ lines (drop (suc (length (cond e [] (b ∷ firstLine text)))) (b ∷ text))
+    at true = refl
+    at false = first-extended b text
+
+-- the line at a place of the text, and those behind it
+pub lines-here : (text : List ℕ) (at : ℕ) → at < length text → lines (drop at text) ≡ lineAt text at ∷ lines (drop (nextLine text at) text)
+unfolding lineAt
+lines-here text at h = rw (← next-drop text at, drop-cons text at 0 h) (lines-first (getD text at 0) (drop (suc at) text))
+
+-- what a count that has come to `n` at a place tells of the number of lines
+pub record Counted (text : List ℕ) (most n at : ℕ) : Type 0 where
+  pub passed : n ≤ at
+  pub place : at ≤ length text
+  pub few : n ≤ most
+  pub all : n + length (lines (drop at text)) ≡ length (lines text)
+
+pub counted-more : (text : List ℕ) (most n at : ℕ) → Counted text most n at → at < length text → n + 1 ≤ most → Counted text most (n + 1) (nextLine text at)
+counted-more text most n at c h k =
+    let after = next-after text at h in
+    record {
+      passed = omega (arith, c .passed);
+      place = next-within text at;
+      few = k;
+      all = omega (arith, c .all, ap length (lines-here text at h));
+    }
+
+pub counted-past : (text : List ℕ) (most n at : ℕ) → Counted text most n at → at < length text → most < n + 1 → n + 1 ≡ countUpTo most text
+unfolding countUpTo
+counted-past text most n at c h k = omega (arith, c .few, c .all, ap length (lines-here text at h))
+
+pub counted-all : (text : List ℕ) (most n at : ℕ) → Counted text most n at → length text ≤ at → n ≡ countUpTo most text
+unfolding countUpTo
+counted-all text most n at c h = omega (arith, c .few, c .all, ap length (lines-past text at h))

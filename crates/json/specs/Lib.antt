@@ -1,0 +1,5 @@
+pub mod Lines
+pub mod Utf8
+pub mod Strings
+pub mod Json
+pub mod Access

@@ -1,0 +1,58 @@
+// The lines of a text, gone over by a cursor: the offset at which the next line begins (document 01, JSON line).
+ghost use mathlib.Core.Path.{_≡_};
+ghost use Rattle.json.specs.Lines as spec;
+ghost use Prim.Native.Nat.{_+_};
+ghost use lib.ListN.{length};
+
+// Where the line that begins at `at` ends: at the next LF or at the end of the text.
+pub fn line_end(text: &[u8], at: usize) -> usize
+    ensures { λ r. ⌜ r ≡ at + length (spec.lineAt (now (text .entry)) at) ⌝ }
+{
+    let mut i = at;
+    while i < text.len() {
+        if text[i] == b'\n' {
+            return i;
+        }
+        i += 1;
+    }
+    i
+}
+
+// The line that begins at `at`, as a part of the text.
+pub fn line_at(text: &[u8], at: usize) -> &[u8]
+    ensures { λ r. ⌜ now r ≡ spec.lineAt (now (text .entry)) at ⌝ }
+{
+    if text.len() < at {
+        return &text[..0];
+    }
+    let end = line_end(text, at);
+    &text[at..end]
+}
+
+// The offset of the line behind the one that begins at `at`; the text's length where there is none.
+pub fn next_line(text: &[u8], at: usize) -> usize
+    ensures { λ r. ⌜ r ≡ spec.nextLine (now (text .entry)) at ⌝ }
+{
+    let end = line_end(text, at);
+    if end < text.len() {
+        end + 1
+    } else {
+        text.len()
+    }
+}
+
+// The number of lines, or one more than `most` where there are more.
+pub fn count_lines(text: &[u8], most: usize) -> usize
+    ensures { λ r. ⌜ r ≡ spec.countUpTo most (now (text .entry)) ⌝ }
+{
+    let mut n = 0;
+    let mut at = 0;
+    while at < text.len() {
+        n += 1;
+        if most < n {
+            return n;
+        }
+        at = next_line(text, at);
+    }
+    n
+}
