@@ -4,17 +4,19 @@ use std::hint::black_box;
 use std::str::FromStr;
 
 use rmqtt::topic::Topic;
+use serde_json::Value;
 
 use crate::inputs::Input;
 
-pub const KINDS: [&str; 4] = ["V", "T", "P", "P-parsed"];
+pub const KINDS: [&str; 5] = ["V", "T", "P", "P-parsed", "J"];
 
 /// What the original does in each kind, for the reader of the table.
 pub const LEGEND: &str = "\
 V         valid filter: Topic::from_str
 T         tree match: Topic::from_str of the text, then a tree with one filter, built beforehand
 P         plain match: Topic::from_str of the filter, then matches_str
-P-parsed  plain match: matches_str of a filter that was parsed beforehand";
+P-parsed  plain match: matches_str of a filter that was parsed beforehand
+J         a line of JSON: serde_json::from_slice::<Value>";
 
 /// Goes through the inputs until `n` calls are made; the number of yes.
 fn repeat(inputs: &[Input], n: usize, call: impl Fn(&Input) -> bool) -> usize {
@@ -24,6 +26,16 @@ fn repeat(inputs: &[Input], n: usize, call: impl Fn(&Input) -> bool) -> usize {
         yes += black_box(call(input)) as usize;
     }
     yes
+}
+
+/// Bytes that a call is given, on average.
+pub fn bytes(kind: &str, inputs: &[Input]) -> f64 {
+    let of = |i: &Input| match kind {
+        "V" => i.checked.len(),
+        "J" => i.line.len(),
+        _ => i.filter.len() + i.text.len(),
+    };
+    inputs.iter().map(of).sum::<usize>() as f64 / inputs.len() as f64
 }
 
 fn checked(text: &str) -> Topic {
@@ -46,6 +58,8 @@ pub fn run(kind: &str, side: &str, inputs: &[Input], n: usize) -> usize {
             repeat(inputs, n, |i| Topic::from_str(&i.filter).is_ok_and(|topic| topic.matches_str(&i.text)))
         }
         ("P-parsed", "rust") => repeat(inputs, n, |i| i.topic.matches_str(&i.text)),
+        ("J", "port") => repeat(inputs, n, |i| port::is_document(i.line.as_bytes())),
+        ("J", "rust") => repeat(inputs, n, |i| serde_json::from_slice::<Value>(i.line.as_bytes()).is_ok()),
         (kind, side) => panic!("no such call: {kind} {side}"),
     }
 }

@@ -1,27 +1,32 @@
 //! The inputs: filters and texts of three sizes, each with texts that match and
-//! texts that don't. Both matches give them the same answer.
+//! texts that don't. Both matches give them the same answer. And rule lines with
+//! these filters.
 
 use std::str::FromStr;
 
 use rmqtt::topic::Topic;
 use rmqtt::trie::TopicTree;
+use serde_json::Value;
 
 pub struct Input {
     pub filter: String,
     pub text: String,
     /// For V: the filter itself, or with one byte more, which makes it invalid.
     pub checked: String,
+    /// For J: a rule, or with another bracket at its end.
+    pub line: String,
     pub topic: Topic,
     pub tree: TopicTree<Option<u8>>,
 }
 
 impl Input {
-    fn new(filter: &str, text: &str, answer: bool) -> Input {
+    fn new(filter: &str, text: &str, line: String, answer: bool) -> Input {
         let topic = Topic::from_str(filter).expect("a filter");
         let mut tree = TopicTree::default();
         tree.insert(&topic, None);
         let checked = if answer { filter.into() } else { format!("{filter}+") };
-        Input { filter: filter.into(), text: text.into(), checked, topic, tree }
+        let line = if answer { line } else { format!("{}}}", &line[..line.len() - 1]) };
+        Input { filter: filter.into(), text: text.into(), checked, line, topic, tree }
     }
 }
 
@@ -70,8 +75,25 @@ fn long() -> [[String; 3]; 3] {
     [[text.clone(), text.clone(), other.clone()], [plus, text.clone(), other], [hash, text, earlier]]
 }
 
+/// A rule of about 60 bytes, of twice as many, and of 2,048, with many topics.
+fn line(size: &str, filter: &str) -> String {
+    let rule = |topics: &str| format!("[\"allow\",{{\"user\":\"bo\"}},\"publish\",[{topics}]]");
+    match size {
+        "short" => rule(&format!("\"{filter}\",\"a/%c\"")),
+        "typical" => rule(&format!("\"{filter}\",{{\"eq\":\"{filter}\"}}")),
+        _ => {
+            let topics = TYPICAL.map(|[filter, ..]| format!("\"{filter}\"")).join(",");
+            let line = rule(&format!("{},\"{}\"", vec![topics; 13].join(","), "a/".repeat(69)));
+            assert_eq!(line.len(), 2_048);
+            line
+        }
+    }
+}
+
 pub fn inputs(size: &str, answer: bool) -> Vec<Input> {
-    let pick = |filter: &str, yes: &str, no: &str| Input::new(filter, if answer { yes } else { no }, answer);
+    let pick = |filter: &str, yes: &str, no: &str| {
+        Input::new(filter, if answer { yes } else { no }, line(size, filter), answer)
+    };
     let inputs: Vec<Input> = match size {
         "short" => SHORT.iter().map(|[f, yes, no]| pick(f, yes, no)).collect(),
         "typical" => TYPICAL.iter().map(|[f, yes, no]| pick(f, yes, no)).collect(),
@@ -81,6 +103,7 @@ pub fn inputs(size: &str, answer: bool) -> Vec<Input> {
     for i in &inputs {
         assert_eq!(i.topic.matches_str(&i.text), answer, "{} on {}", i.filter, i.text);
         assert_eq!(Topic::from_str(&i.checked).is_ok(), answer, "{}", i.checked);
+        assert_eq!(serde_json::from_str::<Value>(&i.line).is_ok(), answer, "{}", i.line);
     }
     inputs
 }

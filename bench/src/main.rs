@@ -7,7 +7,7 @@ mod inputs;
 use std::process::{Command, ExitCode};
 use std::time::Instant;
 
-use calls::{run, KINDS, LEGEND};
+use calls::{bytes, run, KINDS, LEGEND};
 use inputs::{inputs, Input, SIZES};
 
 const ROUNDS: usize = 21;
@@ -64,17 +64,25 @@ fn count(kind: &str, size: &str, answer: &str) -> Result<(f64, f64), String> {
     Ok((of("port")?, of("rust")?))
 }
 
+fn row(kind: &str, size: &str, answer: &str) -> Result<(), String> {
+    let inputs = inputs(size, answer == "yes");
+    let (port, rust) = time(kind, &inputs);
+    let n = bytes(kind, &inputs);
+    print!("{kind:8}  {size:7}  {answer:3}    {port:8.1} {rust:8.1}  {:5.2}", port / rust);
+    print!("  {:5.2}  {:5.2}", port / n, rust / n);
+    let (port, rust) = count(kind, size, answer)?;
+    println!(" {port:8.0} {rust:8.0}  {:5.2}", port / rust);
+    Ok(())
+}
+
 fn table() -> Result<(), String> {
     println!("{LEGEND}\n");
-    println!("                            ns a call            instructions a call");
-    println!("kind      size     answer   port    Rust  ratio    port    Rust  ratio");
+    println!("                              ns a call              ns a byte   instructions a call");
+    println!("kind      size     answer     port     Rust  ratio   port   Rust     port     Rust  ratio");
     for kind in KINDS {
         for size in SIZES {
             for answer in ["yes", "no"] {
-                let (port, rust) = time(kind, &inputs(size, answer == "yes"));
-                print!("{kind:8}  {size:7}  {answer:3}   {port:7.1} {rust:7.1}  {:5.2}", port / rust);
-                let (port, rust) = count(kind, size, answer)?;
-                println!(" {port:7.0} {rust:7.0}  {:5.2}", port / rust);
+                row(kind, size, answer)?;
             }
         }
     }

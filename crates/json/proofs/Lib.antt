@@ -9,3 +9,4 @@ pub mod StepLaws
 pub mod ValueLaws
 pub mod AccessSteps
 pub mod AccessLaws
+pub mod DocumentLaws

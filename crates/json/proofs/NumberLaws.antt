@@ -1,12 +1,11 @@
 -- Laws of the digits of a number, one by one: the steps of the loop of `number_at` and what it ends in. Assumes nothing.
-use Prim.Native.Nat.{ℕ, zero, suc, _+_, _-_, _*_, _≤_, _<_}
+use Prim.Native.Nat.{ℕ, zero, _+_, _-_, _*_, _≤_, _<_}
 use native.Mathlib.Numerals.{add-one}
 use native.Mathlib.Omega.{arith}
 use mathlib.Core.Path.{_≡_, refl, sym, ap, _∙_}
-use mathlib.Core.Bool.{Bool, true, false, _&&_, _||_, not, cond, and-true, and-false, or-true}
+use mathlib.Core.Bool.{Bool, true, false, _&&_, _||_, not, and-true, and-false, or-true}
 use mathlib.Core.List.{List, [], _∷_}
-use mathlib.Core.Option.{none, some}
-use lib.Dec.{eqb, leb}
+use lib.Dec.{eqb}
 use lib.ListN.{length, getD, drop, length-drop, drop-of-length-le}
 use lib.Seq.{drop-cons}
 use borrow.Author.Tests.{eq-eqb, ne-eqb, le-leb, lt-leb}
@@ -14,7 +13,6 @@ use Rattle.text.proofs.Laws.{isnt}
 use Rattle.json.specs.Utf8.{between}
 use Rattle.json.specs.Json.{digits, decimal, plainNumber, numberAt}
 use Rattle.json.specs.Access.{digitsOf}
-use Rattle.json.specs.declared.Digits.{Digits}
 use Rattle.json.specs.declared.Digits.the-variants.{Value, Bad as BadDigits}
 use Rattle.json.proofs.ScanLaws.{digitsAt, digits-all, plain-some}
 use Rattle.json.proofs.Utf8Laws.{within-told}

@@ -2,15 +2,15 @@
 use Prim.Native.Nat.{ℕ, zero, suc, _+_, _-_, _*_, _≤_, _<_}
 use native.Mathlib.Omega.{arith}
 use mathlib.Core.Path.{_≡_, refl, sym, ap, _∙_}
-use mathlib.Core.Bool.{Bool, true, false, _&&_, _||_, cond, and-false}
+use mathlib.Core.Bool.{Bool, true, false, _&&_, _||_, not, cond, and-false}
 use mathlib.Core.List.{List, [], _∷_}
 use lib.Dec.{eqb, leb, ltb}
 use Rattle.text.proofs.Laws.{and-split}
 use lib.ListN.{length, getD, drop, drop-of-length-le, length-drop}
 use lib.Seq.{drop-drop}
-use borrow.Author.Tests.{lt-ltb, le-ltb, ltb-true, ltb-false, leb-true, leb-false, le-leb, lt-leb, eqb-true, eqb-false, eq-eqb, ne-eqb}
+use borrow.Author.Tests.{lt-ltb, le-ltb, ltb-true, ltb-false, leb-true, leb-false, le-leb, lt-leb, eqb-true, eqb-false, eq-eqb, ne-eqb, not-true}
 use Rattle.json.specs.Utf8.{noByte, byteAt, between, sequence, utf8}
-use Rattle.json.specs.Strings.{quote, backslash, hexDigit, noHex, hex4, shortEscape, lowSurrogate, unicode, escape, rawPiece, pieceOf}
+use Rattle.json.specs.Strings.{quote, backslash, hexDigit, noHex, hex4, shortEscape, lowSurrogate, unicode, escape, rawPiece, isPlain, pieceOf}
 use Rattle.json.specs.declared.Piece.{Piece}
 use Rattle.json.specs.declared.Piece.the-variants.{Closes, Raw, Escaped, Bad}
 use Rattle.json.proofs.Utf8Laws.{byte-here, byte-first, byte-past, within, under, over, within-told, sequence-size, sequence-ascii, sequence-past, utf8-by, utf8-size}
@@ -342,3 +342,22 @@ escaped-code s c n e = pieces s .escaped c n e .2
 -- an escape is no shorter than what it stands for
 pub escaped-shrinks : (s : List ℕ) (c n : ℕ) → pieceOf s ≡ Escaped c n → length (utf8 c) ≤ n
 escaped-shrinks s c n e = pieces s .escaped c n e .3
+
+-- a byte that is a character by itself
+pub plain-by : (b : ℕ) {q k t : Bool} → eqb b quote ≡ q → eqb b backslash ≡ k → between 0x20 0x7f b ≡ t → isPlain b ≡ (not q && (not k && t))
+unfolding isPlain
+plain-by b q k t = λ i. not (q i) && (not (k i) && t i)
+
+pub plain-raw : (line : List ℕ) (i : ℕ) → i < length line → isPlain (getD line i 0) ≡ true → pieceOf (drop i line) ≡ Raw 1
+unfolding isPlain
+plain-raw line i h e =
+    let s = drop i line in
+    let here = byte-first line i h in
+    let a = and-split (not (eqb (getD line i 0) quote)) _ e in
+    let b = and-split (not (eqb (getD line i 0) backslash)) _ (a .1) in
+    let t = within-told 0x20 0x7f (getD line i 0) (b .1) in
+    piece-by s
+    (ap (λ (x : ℕ). eqb x quote) here ∙ not-true _ (a .0))
+    (ap (λ (x : ℕ). eqb x backslash) here ∙ not-true _ (b .0))
+    (ap (λ (x : ℕ). ltb x 0x20) here ∙ le-ltb _ _ (t .0))
+    ∙ (ap rawPiece (sequence-ascii s (rw here (t .1))) ∙ raw-some 1 (λ z. omega arith))

@@ -1,28 +1,25 @@
 -- Laws of `specs/Json.antt`'s leaves: places stay in the line, and the steps of the loops over blanks and digits. Assumes nothing.
-use Prim.Native.Nat.{ℕ, zero, suc, _+_, _-_, _*_, _≤_, _<_, max}
-use native.Mathlib.Nat.{zero-add}
+use Prim.Native.Nat.{ℕ, zero, suc, _+_, _-_, _≤_, _<_}
 use native.Mathlib.Numerals.{add-one}
 use native.Mathlib.Omega.{arith}
 use mathlib.Core.Path.{_≡_, refl, sym, ap, _∙_}
 use mathlib.Core.Logic.{_⊎_, inl, inr}
-use mathlib.Core.Bool.{Bool, true, false, _&&_, _||_, not, cond, true≢false, and-true, and-false, or-true}
+use mathlib.Core.Bool.{Bool, true, false, cond, true≢false}
 use mathlib.Core.List.{List, [], _∷_}
 use mathlib.Core.Option.{Option, none, some, bind, Option·none-ne-some}
-use lib.Dec.{eqb, leb}
-use lib.ListN.{length, getD, take, drop, length-drop, drop-of-length-le, List·getD-eq-default}
+use lib.Dec.{eqb}
+use lib.ListN.{length, getD, take, drop, length-drop, drop-of-length-le}
 use lib.Seq.{drop-cons}
-use borrow.Author.Tests.{eqb-true, eq-eqb, ne-eqb, leb-true, leb-false, le-leb, lt-leb}
+use borrow.Author.Tests.{eqb-true, ne-eqb}
 use Rattle.text.specs.Ascii.{ascii}
 use Rattle.text.specs.Text.{begins}
-use Rattle.text.proofs.Laws.{isnt, and-split, begins-length}
+use Rattle.text.proofs.Laws.{isnt, begins-length}
 use Rattle.json.specs.Utf8.{noByte, byteAt, between, utf8}
 use Rattle.json.specs.Strings.{quote, Decoded, pieceOf, grown, stringFrom, stringAt}
 use Rattle.json.specs.Json.{Json, null, bool, Read, isAt, isBlank, blanks, skipBlanks, kindOf, digits, decimal, plainNumber, numberAt, wordAt, textAt, nameAt, separatorAt}
 use Rattle.json.specs.declared.Piece.{Piece}
 use Rattle.json.specs.declared.Piece.the-variants.{Closes, Raw, Escaped, Bad}
-use Rattle.json.specs.declared.Kind.{Kind}
 use Rattle.json.specs.declared.Kind.the-variants.{Number, Text, Array, Object, Word, Blank, Other}
-use Rattle.json.specs.declared.Separator.{Separator}
 use Rattle.json.specs.declared.Separator.the-variants.{Close, Comma, Neither}
 use Rattle.json.proofs.Utf8Laws.{byte-past}
 

@@ -1,18 +1,16 @@
 -- The cursor behind a leaf, by what was scanned: a number's digits, a word, a string, a name. Assumes nothing.
-use Prim.Native.Nat.{ℕ, _+_, _≤_, max}
+use Prim.Native.Nat.{ℕ, _+_, max}
 use native.Mathlib.Nat.{max-zero}
-use native.Mathlib.Omega.{arith}
-use mathlib.Core.Path.{_≡_, refl, sym, ap, _∙_}
+use mathlib.Core.Path.{_≡_, refl, ap, _∙_}
 use mathlib.Core.Bool.{Bool, true, false, cond}
-use mathlib.Core.List.{List, []}
+use mathlib.Core.List.{List}
 use mathlib.Core.Option.{Option, none, some, bind}
 use lib.ListN.{length, drop}
 use Rattle.text.specs.Ascii.{ascii}
 use Rattle.text.specs.Text.{begins}
 use Rattle.json.specs.Strings.{Decoded, stringAt}
-use Rattle.json.specs.Json.{Json, null, bool, Read, isAt, skipBlanks, numberAt, wordAt, textAt, nameAt, longest}
+use Rattle.json.specs.Json.{Json, null, bool, Read, isAt, skipBlanks, wordAt, textAt, nameAt, longest}
 use Rattle.json.specs.Access.{stepped, scanned, digitsOf, literalIs, literalOf, noString}
-use Rattle.json.specs.declared.Cursor.{Cursor}
 use Rattle.json.specs.declared.Step.{Step}
 use Rattle.json.specs.declared.Step.the-variants.{Next, Bad}
 use Rattle.json.specs.declared.Scanned.{Scanned}

@@ -35,6 +35,15 @@ unfoldable pub checked : Option Json → Checked
 checked none = Invalid
 checked (some v) = Valid (longest v)
 
+-- is the line a document? and one whose decoded strings, member names included, have at most this many bytes?
+unfoldable pub isDocument : Option Json → Bool
+isDocument none = false
+isDocument (some v) = true
+
+unfoldable pub documentWithin : ℕ → Option Json → Bool
+documentWithin most none = false
+documentWithin most (some v) = leb (longest v) most
+
 -- the cursor behind what was read: `long` is the length of the longest string in it, `before` that of those before it
 unfoldable pub stepped : {What : Type 0} → (What → ℕ) → ℕ → Option (Read What) → Step
 stepped long before none = Bad

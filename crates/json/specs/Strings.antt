@@ -1,6 +1,6 @@
 -- Strings of a line, with their escapes: RFC 8259, section 7; document 01, "UTF-8 is checked; lone surrogates are refused".
 use Prim.Native.Nat.{ℕ, zero, suc, _+_, _-_, _*_}
-use mathlib.Core.Bool.{Bool, true, false, _&&_, _||_, cond}
+use mathlib.Core.Bool.{Bool, true, false, _&&_, _||_, not, cond}
 use mathlib.Core.List.{List, [], _∷_, _++_}
 use mathlib.Core.Option.{Option, none, some}
 use lib.Dec.{eqb, leb, ltb}
@@ -63,6 +63,10 @@ escape s =
 -- a character as it stands, of this many bytes
 unfoldable pub rawPiece : ℕ → Piece
 rawPiece n = cond (eqb n 0) Bad (Raw n)
+
+-- a byte that is a character by itself, neither a quote nor a backslash
+unfoldable pub isPlain : ℕ → Bool
+isPlain b = not (eqb b quote) && (not (eqb b backslash) && between 0x20 0x7f b)
 
 -- what a string has at the front of the bytes: its closing quote, a character as it stands, an escaped one, or nothing that may stand there
 unfoldable pub pieceOf : List ℕ → Piece

@@ -167,6 +167,19 @@ pub fn piece_at(line: &[u8], at: usize) -> Piece
     }
 }
 
+// Is the byte a character by itself, neither a quote nor a backslash?
+fn is_plain(b: u8) -> bool
+    ensures { λ r. ⌜ r ≡ spec.isPlain b ⌝ }
+{
+    if b == b'"' {
+        return false;
+    }
+    if b == b'\\' {
+        return false;
+    }
+    in_range(0x20, 0x7f, b)
+}
+
 // The string whose opening quote stands at `at`: the place behind it and the length of its decoded text.
 pub fn scan_string(line: &[u8], at: usize) -> Scanned
     ensures { λ r. ⌜ r ≡ access.scanned at (spec.stringAt (now (line .entry)) at) ⌝ }
@@ -180,20 +193,26 @@ pub fn scan_string(line: &[u8], at: usize) -> Scanned
     let mut i = at + 1;
     let mut n = 0;
     while i < line.len() {
-        match piece_at(line, i) {
-            Piece::Closes => {
-                return Scanned::Text(i + 1, n);
-            }
-            Piece::Raw(size) => {
-                i += size;
-                n += size;
-            }
-            Piece::Escaped(c, size) => {
-                i += size;
-                n += utf8_size(c);
-            }
-            Piece::Bad => {
-                return Scanned::Bad;
+        // Most characters are decided by one byte.
+        if is_plain(line[i]) {
+            i += 1;
+            n += 1;
+        } else {
+            match piece_at(line, i) {
+                Piece::Closes => {
+                    return Scanned::Text(i + 1, n);
+                }
+                Piece::Raw(size) => {
+                    i += size;
+                    n += size;
+                }
+                Piece::Escaped(c, size) => {
+                    i += size;
+                    n += utf8_size(c);
+                }
+                Piece::Bad => {
+                    return Scanned::Bad;
+                }
             }
         }
     }

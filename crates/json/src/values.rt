@@ -329,3 +329,23 @@ pub fn check(line: &[u8]) -> Checked
         Step::Bad => Checked::Invalid,
     }
 }
+
+// Is the line a document?
+pub fn is_document(line: &[u8]) -> bool
+    ensures { λ r. ⌜ r ≡ access.isDocument (spec.lineValue (now (line .entry))) ⌝ }
+{
+    match check(line) {
+        Checked::Invalid => false,
+        Checked::Valid(_) => true,
+    }
+}
+
+// Is the line a document, no decoded string of which, member names included, is longer than `most` bytes?
+pub fn is_document_within(line: &[u8], most: usize) -> bool
+    ensures { λ r. ⌜ r ≡ access.documentWithin most (spec.lineValue (now (line .entry))) ⌝ }
+{
+    match check(line) {
+        Checked::Invalid => false,
+        Checked::Valid(longest) => longest <= most,
+    }
+}

@@ -23,14 +23,14 @@ kind-letter (a ∷ []) l e = ap (λ b. kindOf (b ∷ [])) e
 kind-letter (a ∷ b ∷ word) l e = absurd (omega arith)
 
 pub kind-other : (word : List ℕ) → length word ≡ 1 →
-    (getD word 0 0 ≡ 86 → ⊥) → (getD word 0 0 ≡ 84 → ⊥) → (getD word 0 0 ≡ 80 → ⊥) → kindOf word ≡ Nothing
+    (getD word 0 0 ≡ 86 → ⊥) → (getD word 0 0 ≡ 84 → ⊥) → (getD word 0 0 ≡ 80 → ⊥) → (getD word 0 0 ≡ 74 → ⊥) → (getD word 0 0 ≡ 76 → ⊥) → kindOf word ≡ Nothing
 unfolding kindOf same
-kind-other word l v t p = kind-letter word l refl ∙ (rw (ne-eqb _ _ v, ne-eqb _ _ t, ne-eqb _ _ p))
+kind-other word l v t p j m = kind-letter word l refl ∙ (rw (ne-eqb _ _ v, ne-eqb _ _ t, ne-eqb _ _ p, ne-eqb _ _ j, ne-eqb _ _ m))
 
 -- a word of another length is none
 pub kind-long : (word : List ℕ) → (length word ≡ 1 → ⊥) → kindOf word ≡ Nothing
 unfolding kindOf
-kind-long word l = rw (same-lengths word (ascii "V") l, same-lengths word (ascii "T") l, same-lengths word (ascii "P") l)
+kind-long word l = rw (same-lengths word (ascii "V") l, same-lengths word (ascii "T") l, same-lengths word (ascii "P") l, same-lengths word (ascii "J") l, same-lengths word (ascii "L") l)
 
 pub compared-by : (kind : Kind) (answer : Bool) (recorded : List ℕ) {yes no : Bool} →
     same recorded (ascii "yes") ≡ yes → same recorded (ascii "no") ≡ no →

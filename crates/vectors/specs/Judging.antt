@@ -5,9 +5,11 @@ use mathlib.Core.List.{List}
 use Rattle.text.specs.Ascii.{ascii}
 use Rattle.text.specs.Text.{same}
 use Rattle.topic.specs.Topic.{validFilter, treeMatch, plainMatch}
+use Rattle.json.specs.Json.{lineValue}
+use Rattle.json.specs.Access.{isDocument, documentWithin}
 use Rattle.vectors.specs.Fields.{rest, field}
 use Rattle.vectors.specs.declared.judging.Kind.{Kind}
-use Rattle.vectors.specs.declared.judging.Kind.the-variants.{Valid, Tree, Plain}
+use Rattle.vectors.specs.declared.judging.Kind.the-variants.{Valid, Tree, Plain, Document, Within}
 use Rattle.vectors.specs.declared.judging.Named.{Named}
 use Rattle.vectors.specs.declared.judging.Named.the-variants.{Of, Nothing}
 use Rattle.vectors.specs.declared.judging.Judged.{Judged}
@@ -18,7 +20,7 @@ unfoldable pub kindOf : List ℕ → Named
 kindOf word =
     cond (same word (ascii "V")) (Of Valid)
     (cond (same word (ascii "T")) (Of Tree)
-    (cond (same word (ascii "P")) (Of Plain) Nothing))
+    (cond (same word (ascii "P")) (Of Plain) (cond (same word (ascii "J")) (Of Document) (cond (same word (ascii "L")) (Of Within) Nothing))))
 
 abbrev pub verdict : Kind → Bool → Judged
 verdict kind agrees = cond agrees (Agrees kind) (Differs kind)
@@ -30,11 +32,13 @@ compared kind answer recorded =
     (cond (same recorded (ascii "no")) (verdict kind (not answer)) Malformed)
 
 -- what a line of this kind asks, and its recorded answer: `V`, text, answer; `T`, filter, text, answer; `P` likewise. The answer is all
--- that is left of the line, so that no field is left over
+-- that is left of the line, so that no field is left over. `J`, answer, JSON line; `L` likewise: the JSON line is all that is left
 unfoldable pub asked : List ℕ → Kind → Judged
 asked line Valid = compared Valid (validFilter (field 1 line)) (rest 2 line)
 asked line Tree = compared Tree (treeMatch (field 1 line) (field 2 line)) (rest 3 line)
 asked line Plain = compared Plain (plainMatch (field 1 line) (field 2 line)) (rest 3 line)
+asked line Document = compared Document (isDocument (lineValue (rest 2 line))) (field 1 line)
+asked line Within = compared Within (documentWithin 256 (lineValue (rest 2 line))) (field 1 line)
 
 -- what a line comes to
 unfoldable pub judgeNamed : List ℕ → Named → Judged

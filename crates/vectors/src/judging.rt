@@ -5,11 +5,14 @@ use crate::fields::rest;
 ghost use mathlib.Core.Path.{_≡_};
 ghost use Rattle.vectors.specs.Judging as spec;
 
-// The kinds of questions: is it a valid filter (`V`), Tree match (`T`), Plain match (`P`).
+// The kinds of questions: is it a valid filter (`V`), Tree match (`T`), Plain match (`P`), is it a JSON document (`J`), and one whose
+// strings are within the limit (`L`).
 pub enum Kind {
     Valid,
     Tree,
     Plain,
+    Document,
+    Within,
 }
 
 // What the first field of a line names.
@@ -36,6 +39,8 @@ fn kind_of(word: &[u8]) -> Named
         b'V' => Named::Of(Kind::Valid),
         b'T' => Named::Of(Kind::Tree),
         b'P' => Named::Of(Kind::Plain),
+        b'J' => Named::Of(Kind::Document),
+        b'L' => Named::Of(Kind::Within),
         _ => Named::Nothing,
     }
 }
@@ -87,6 +92,25 @@ fn plain_line(line: &[u8]) -> Judged
     compared(Kind::Plain, answer, rest(line, 3))
 }
 
+// A line `J`, answer, JSON line.
+fn document_line(line: &[u8]) -> Judged
+    ensures { λ r. ⌜ r ≡ spec.asked (now (line .entry)) Kind.Document ⌝ }
+{
+    let answer = json::values::is_document(rest(line, 2));
+    compared(Kind::Document, answer, field(line, 1))
+}
+
+// The longest decoded string.
+const LIMIT: usize = 256;
+
+// A line `L`, answer, JSON line.
+fn within_line(line: &[u8]) -> Judged
+    ensures { λ r. ⌜ r ≡ spec.asked (now (line .entry)) Kind.Within ⌝ }
+{
+    let answer = json::values::is_document_within(rest(line, 2), LIMIT);
+    compared(Kind::Within, answer, field(line, 1))
+}
+
 // Does the line's answer agree with what this port answers?
 pub fn judge(line: &[u8]) -> Judged
     ensures { λ r. ⌜ r ≡ spec.judge (now (line .entry)) ⌝ }
@@ -97,6 +121,8 @@ pub fn judge(line: &[u8]) -> Judged
             Kind::Valid => valid_line(line),
             Kind::Tree => tree_line(line),
             Kind::Plain => plain_line(line),
+            Kind::Document => document_line(line),
+            Kind::Within => within_line(line),
         },
     }
 }

@@ -8,9 +8,9 @@ ghost use Prim.Native.Nat.{_<_};
 ghost use Rattle.vectors.specs.Tallies as spec;
 
 // The number of kinds, and the letter of each, in the order of `place`.
-const KINDS: usize = 3;
+const KINDS: usize = 5;
 
-const LETTERS: [u8; KINDS] = [b'V', b'T', b'P'];
+const LETTERS: [u8; KINDS] = [b'V', b'T', b'P', b'J', b'L'];
 
 // Where a kind is counted.
 fn place(kind: Kind) -> usize
@@ -20,6 +20,8 @@ fn place(kind: Kind) -> usize
         Kind::Valid => 0,
         Kind::Tree => 1,
         Kind::Plain => 2,
+        Kind::Document => 3,
+        Kind::Within => 4,
     }
 }
 

@@ -3,7 +3,9 @@
 //! Compares the port's exported functions with the original Rust: V, whether a
 //! text is a valid filter; T, the tree match; P, the plain match. First all
 //! texts over `a $ + # /`, for T and P up to the length, for V three longer;
-//! then random ones for SECONDS. Exit status 1 if anything differs.
+//! then random ones for half of SECONDS. And with serde_json: J, whether a line
+//! is a document; L, whether its strings are within a limit. First all short
+//! lines, then random ones for the other half. Exit status 1 if anything differs.
 
 mod phases;
 mod tally;
@@ -56,8 +58,11 @@ fn main() -> ExitCode {
     let longer = length + 3;
     phase(&format!("V, all texts up to {longer} bytes"), &mut all, || phases::short_filters(longer));
     phase(&format!("T and P, all pairs up to {length} bytes"), &mut all, || phases::short_pairs(length));
-    let until = Instant::now() + Duration::from_secs(seconds);
-    phase(&format!("V, T and P, random, seed {seed}"), &mut all, || phases::random(seed, until));
+    phase("J and L, all short lines", &mut all, phases::short_lines);
+    phase("J and L, all damages of a few lines", &mut all, phases::damaged_lines);
+    let half = || Instant::now() + Duration::from_secs(seconds) / 2;
+    phase(&format!("V, T and P, random, seed {seed}"), &mut all, || phases::random(seed, half()));
+    phase(&format!("J and L, random, seed {seed}"), &mut all, || phases::random_lines(seed, half()));
     println!("\n{all}");
     if all.differences() == 0 {
         ExitCode::SUCCESS

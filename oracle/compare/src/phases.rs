@@ -6,7 +6,10 @@ use std::thread;
 use std::time::Instant;
 
 use oracle::cases::Kind;
-use oracle::generate::{self, Random, ALPHABET};
+use oracle::generate::{self, Random, ALPHABET, LIMIT};
+use oracle::json::lines::RICH;
+use oracle::json::short::{families, Family};
+use oracle::json::{self, judge, Judged};
 use oracle::matching::{self, checked, filter, tree};
 
 use crate::tally::Tally;
@@ -94,4 +97,60 @@ fn compare_pair(f: &str, text: &str, tally: &mut Tally) {
     tally.count(Kind::T, f, text, rust, port::tree_match(f.as_bytes(), text.as_bytes()));
     let rust = topic.matches_str(text);
     tally.count(Kind::P, f, text, rust, port::plain_match(f.as_bytes(), text.as_bytes()));
+}
+
+/// J, and L at the limit, at the longest string of the line and one byte below.
+fn compare_line(line: &[u8], tally: &mut Tally) {
+    let judged = judge(line);
+    tally.count_document(line, judged, port::is_document(line));
+    let mut within = |most| {
+        tally.count_within(line, most, judged.is_within(most), port::is_document_within(line, most));
+    };
+    within(LIMIT);
+    if let Judged::Document { longest } = judged {
+        within(longest);
+        longest.checked_sub(1).into_iter().for_each(within);
+    }
+}
+
+/// J and L: all lines of the short families.
+pub fn short_lines() -> Tally {
+    let mut tally = Tally::default();
+    families().iter().for_each(|family| tally.add(family_lines(family)));
+    tally
+}
+
+fn family_lines(family: &Family) -> Tally {
+    const BLOCK: usize = 1 << 14;
+    in_blocks(|block, tally| {
+        let first = block * BLOCK;
+        for n in first..family.lines().min(first + BLOCK) {
+            compare_line(&family.line(n), tally);
+        }
+        first < family.lines()
+    })
+}
+
+/// J and L: some lines with every single damage.
+pub fn damaged_lines() -> Tally {
+    in_blocks(|block, tally| {
+        let Some(line) = RICH.get(block) else { return false };
+        json::short::damaged(line.as_bytes()).for_each(|line| compare_line(&line, tally));
+        true
+    })
+}
+
+/// J and L of random lines and damaged copies, until the time is up.
+pub fn random_lines(seed: u64, until: Instant) -> Tally {
+    in_blocks(|block, tally| {
+        let mut r = Random::of_block(seed, block as u64);
+        for _ in 0..1000 {
+            let line = json::generate::line(&mut r);
+            compare_line(&line, tally);
+            for _ in 0..3 {
+                compare_line(&json::generate::damaged(&mut r, &line), tally);
+            }
+        }
+        Instant::now() < until
+    })
 }

@@ -32,22 +32,22 @@ impl Random {
         Random(Random(seed).next_u64() ^ Random(!block).next_u64())
     }
 
-    fn next_u64(&mut self) -> u64 {
+    pub(crate) fn next_u64(&mut self) -> u64 {
         self.0 = self.0.wrapping_add(0x9e37_79b9_7f4a_7c15);
         let z = (self.0 ^ (self.0 >> 30)).wrapping_mul(0xbf58_476d_1ce4_e5b9);
         let z = (z ^ (z >> 27)).wrapping_mul(0x94d0_49bb_1331_11eb);
         z ^ (z >> 31)
     }
 
-    fn below(&mut self, n: usize) -> usize {
+    pub(crate) fn below(&mut self, n: usize) -> usize {
         (self.next_u64() % n as u64) as usize
     }
 
-    fn percent(&mut self, p: usize) -> bool {
+    pub(crate) fn percent(&mut self, p: usize) -> bool {
         self.below(100) < p
     }
 
-    fn pick<'a>(&mut self, words: &[&'a str]) -> &'a str {
+    pub(crate) fn pick<'a>(&mut self, words: &[&'a str]) -> &'a str {
         words[self.below(words.len())]
     }
 }
@@ -65,7 +65,7 @@ pub fn is_readable(text: &str) -> bool {
 }
 
 /// Any scalar but the three that make levels and wildcards.
-fn scalar(r: &mut Random) -> char {
+pub(crate) fn scalar(r: &mut Random) -> char {
     let top = [0x80, 0x800, 0x1_0000, 0x11_0000][r.below(4)];
     loop {
         match char::from_u32(r.below(top) as u32) {

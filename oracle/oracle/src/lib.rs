@@ -1,9 +1,11 @@
 //! The original Rust, asked. Nothing here decides about access: every answer is
-//! one of `Topic`, `TopicTree`, `AclHandler::hook` or `AuthInfo`.
+//! one of `Topic`, `TopicTree`, `AclHandler::hook` or `AuthInfo`, or for a line of
+//! JSON serde_json's.
 
 pub mod cases;
 pub mod decide;
 pub mod generate;
+pub mod json;
 pub mod matching;
 pub mod perclient;
 pub mod record;

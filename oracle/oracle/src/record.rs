@@ -4,6 +4,7 @@ use std::collections::{HashMap, HashSet};
 
 use crate::cases::{examples, word, Case, Kind, KINDS};
 use crate::generate::{self, is_readable, pad, Random, LIMIT};
+use crate::json;
 use crate::matching;
 
 /// Lines of each kind and answer.
@@ -43,8 +44,12 @@ impl Sample {
     }
 }
 
-/// The whole sample: the same bytes each time.
-pub fn sample() -> String {
+/// The whole sample: the same bytes each time. Filters and matching come first.
+pub fn sample() -> Vec<u8> {
+    [matches().into_bytes(), json::sample::sample()].concat()
+}
+
+fn matches() -> String {
     let mut sample = Sample::default();
     examples().into_iter().for_each(|(case, _)| sample.add(case));
     short(&mut sample);

@@ -12,6 +12,8 @@ mod exported {
             text: *const u8,
             text_len: usize,
         ) -> bool;
+        pub fn acl_is_document(line: *const u8, line_len: usize) -> bool;
+        pub fn acl_is_document_within(line: *const u8, line_len: usize, most: usize) -> bool;
     }
 }
 
@@ -28,4 +30,14 @@ pub fn tree_match(filter: &[u8], text: &[u8]) -> bool {
 pub fn plain_match(filter: &[u8], text: &[u8]) -> bool {
     // SAFETY: as above, both slices.
     unsafe { exported::acl_plain_match(filter.as_ptr(), filter.len(), text.as_ptr(), text.len()) }
+}
+
+pub fn is_document(line: &[u8]) -> bool {
+    // SAFETY: as above, the slice.
+    unsafe { exported::acl_is_document(line.as_ptr(), line.len()) }
+}
+
+pub fn is_document_within(line: &[u8], most: usize) -> bool {
+    // SAFETY: as above, the slice.
+    unsafe { exported::acl_is_document_within(line.as_ptr(), line.len(), most) }
 }

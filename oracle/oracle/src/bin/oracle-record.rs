@@ -5,5 +5,5 @@
 use std::io::{self, Write};
 
 fn main() -> io::Result<()> {
-    io::stdout().write_all(oracle::record::sample().as_bytes())
+    io::stdout().write_all(&oracle::record::sample())
 }

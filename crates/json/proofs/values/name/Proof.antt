@@ -1,5 +1,5 @@
 -- Assumes nothing.
-use mathlib.Core.Path.{refl, sym, ap, _∙_}
+use mathlib.Core.Path.{sym, ap, _∙_}
 use Prim.Native.Nat.{_+_}
 use mathlib.Core.Bool.{cond}
 use native.Mathlib.Omega.{arith}

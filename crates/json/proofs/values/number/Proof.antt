@@ -1,5 +1,5 @@
 -- Assumes nothing.
-use mathlib.Core.Path.{refl, sym, ap, _∙_}
+use mathlib.Core.Path.{sym, ap, _∙_}
 use denote.Ref.{now}
 use Rattle.json.specs.Json.{numberAt}
 use Rattle.json.proofs.StepLaws.{behindDigits, number-stepped}

@@ -5,7 +5,7 @@ use mathlib.Core.Logic.{⊎-elim}
 use mathlib.Core.List.{[]}
 use native.Mathlib.Omega.{arith}
 use borrow.Author.Tests.{not-true, not-false}
-use lib.ListN.{length, getD, drop}
+use lib.ListN.{length, getD}
 use denote.Ref.{now}
 use Rattle.json.proofs.ScanLaws.{digitsAt}
 use Rattle.json.proofs.Utf8Laws.{within-told}

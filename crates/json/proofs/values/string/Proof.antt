@@ -1,5 +1,5 @@
 -- Assumes nothing.
-use mathlib.Core.Path.{refl, sym, ap, _∙_}
+use mathlib.Core.Path.{sym, ap, _∙_}
 use denote.Ref.{now}
 use Rattle.json.specs.declared.Step.the-variants.{Next}
 use Rattle.json.proofs.StepLaws.{behindText, text-stepped}

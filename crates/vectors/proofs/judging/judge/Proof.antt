@@ -37,6 +37,18 @@ enum-told-4 c = search needs
 plain-line-requires : tie.Need-plain-line-requires
 plain-line-requires c κs = search needs
 
+enum-told-5 : tie.Need-enum-told-5
+enum-told-5 c = search needs
+
+document-line-requires : tie.Need-document-line-requires
+document-line-requires c κs = search needs
+
+enum-told-6 : tie.Need-enum-told-6
+enum-told-6 c = search needs
+
+within-line-requires : tie.Need-within-line-requires
+within-line-requires c κs = search needs
+
 returns : tie.Need-returns
 unfolding judgeNamed
 returns c = sym (judge-by _ _ (c .before .before .kind-of .ensures) (c .before .before .before .field .ensures) (c .enum-told .given .1))
@@ -53,6 +65,14 @@ returns-4 : tie.Need-returns-4
 unfolding judgeNamed
 returns-4 c = c .plain-line .ensures ∙ sym (judge-by _ _ (c .before .before .before .before .before .before .kind-of .ensures) (c .before .before .before .before .before .before .before .field .ensures) (c .before .before .before .before .kind .given .1 ∙ ap Of (c .before .enum-told4 .given .1)))
 
+returns-5 : tie.Need-returns-5
+unfolding judgeNamed
+returns-5 c = c .document-line .ensures ∙ sym (judge-by _ _ (c .before .before .before .before .before .before .kind-of .ensures) (c .before .before .before .before .before .before .before .field .ensures) (c .before .before .before .before .kind .given .1 ∙ ap Of (c .before .enum-told5 .given .1)))
+
+returns-6 : tie.Need-returns-6
+unfolding judgeNamed
+returns-6 c = c .within-line .ensures ∙ sym (judge-by _ _ (c .before .before .before .before .before .before .kind-of .ensures) (c .before .before .before .before .before .before .before .field .ensures) (c .before .before .before .before .kind .given .1 ∙ ap Of (c .before .enum-told6 .given .1)))
+
 pub judge-spec : {M : Type 1} → statement M
 judge-spec =
     tie.close
@@ -67,7 +87,13 @@ judge-spec =
     tree-line-requires
     enum-told-4
     plain-line-requires
+    enum-told-5
+    document-line-requires
+    enum-told-6
+    within-line-requires
     returns
     returns-2
     returns-3
-    returns-4)
+    returns-4
+    returns-5
+    returns-6)

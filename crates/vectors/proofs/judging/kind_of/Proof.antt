@@ -27,8 +27,18 @@ unfolding kindOf same
 returns-4 c = sym (kind-letter (now (c .before .before .before .args .word)) (c .before .before .if1 .left) (c .match .keys3))
 
 returns-5 : tie.Need-returns-5
-returns-5 c = sym (kind-other _ (c .before .before .if1 .left) (c .match .rest .0 .0 .1) (c .match .rest .0 .1) (c .match .rest .1))
+unfolding kindOf same
+returns-5 c = sym (kind-letter (now (c .before .before .before .args .word)) (c .before .before .if1 .left) (c .match .keys4))
+
+returns-6 : tie.Need-returns-6
+unfolding kindOf same
+returns-6 c = sym (kind-letter (now (c .before .before .before .args .word)) (c .before .before .if1 .left) (c .match .keys5))
+
+returns-7 : tie.Need-returns-7
+returns-7 c =
+    let r = c .match .rest in
+    sym (kind-other _ (c .before .before .if1 .left) (r .0 .0 .0 .0 .1) (r .0 .0 .0 .1) (r .0 .0 .1) (r .0 .1) (r .1))
 
 pub kind-of-spec : {M : Type 1} → statement M
 kind-of-spec =
-    tie.close (tie.spec returns shared-slice-read-match returns-2 returns-3 returns-4 returns-5)
+    tie.close (tie.spec returns shared-slice-read-match returns-2 returns-3 returns-4 returns-5 returns-6 returns-7)
