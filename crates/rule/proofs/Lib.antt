@@ -1,0 +1,11 @@
+pub mod DecodeLaws
+pub mod WordLaws
+pub mod MemberLaws
+pub mod TopicLaws
+pub mod ReadLaws
+pub mod RuleLaws
+pub mod AgreementLaws
+pub mod FillLaws
+pub mod IdentityLaws
+pub mod StandsLaws
+pub mod Marked
