@@ -1,5 +1,5 @@
--- Worked examples of the documents, evaluated: those of document 01, Marked examples, that speak of T and P, and those of section 4.7 of
--- OASIS MQTT. Assumes nothing.
+-- The worked examples of section 4.7 of OASIS MQTT, evaluated. Document 01's marked examples stand in crates/rule, in one list. Assumes
+-- nothing.
 use Prim.Native.String.{String}
 use mathlib.Core.Bool.{Bool, true, false, _&&_, Bool·beq}
 use mathlib.Core.List.{List, [], _∷_}
@@ -22,26 +22,6 @@ holds (P filter text answer) = Bool·beq (plainMatch (ascii filter) (ascii text)
 abbrev pub all-hold : List Example → Bool
 all-hold [] = true
 all-hold (e ∷ es) = holds e && all-hold es
-
--- document 01. Zero levels are those of a text that is no valid filter
-abbrev pub marked-examples : List Example
-marked-examples =
-    Valid "a#" false ∷
-    T "#" "a#" true ∷
-    T "#" "$SYS/a" false ∷
-    T "a/#" "a/$b" true ∷
-    P "a/#" "a/$b" false ∷
-    P "+" "$SYS/a/b" true ∷
-    T "+" "$SYS/a/b" false ∷
-    P "+/b" "$SYS/b" false ∷
-    T "a/+" "a/#" true ∷
-    T "a/+" "a/" true ∷
-    T "a/+" "a" false ∷
-    []
-
-pub marked : all-hold marked-examples ≡ true
-unfolding same extendFirst withByte levels isOnly wildcardFree validLevels validFilter metadata ends passes behind takes dollarRule treeLevels levelsIf checkedLevels treeMatch plainMatch
-marked = refl
 
 -- section 4.7, by its own order
 abbrev pub mqtt-47-examples : List Example
