@@ -4,6 +4,7 @@ pub mod MemberLaws
 pub mod TopicLaws
 pub mod ReadLaws
 pub mod RuleLaws
+pub mod TemplateLaws
 pub mod AgreementLaws
 pub mod FillLaws
 pub mod IdentityLaws

@@ -1,7 +1,7 @@
 -- A whole rule text: its lines as rules, the first faulty line, and its templates filled for a client; document 01, Refusals by operation
 -- (Open) and Events.
 use Prim.Native.Nat.{ℕ, zero, suc}
-use mathlib.Core.Bool.{Bool, true, false, _&&_, _||_, not, cond}
+use mathlib.Core.Bool.{Bool, true, false, _&&_, _||_, not, cond, Bool·beq}
 use mathlib.Core.List.{List, [], _∷_, _++_, map}
 use mathlib.Core.Option.{Option, none, some, bind}
 use lib.Dec.{ltb}
@@ -98,3 +98,8 @@ filledRules n id name (r ∷ rules) = filledTopics n id name (listed (r .topics)
 
 unfoldable pub filled : List ℕ → List ℕ → Option (List ℕ) → List Filled
 filled t id name = filledRules 0 id name (rulesOf t)
+
+-- the filter templates and the eq templates, each with their order
+unfoldable pub ofKind : Bool → List Filled → List Filled
+ofKind eq [] = []
+ofKind eq (f ∷ fs) = cond (Bool·beq (f .eq) eq) (f ∷ ofKind eq fs) (ofKind eq fs)
