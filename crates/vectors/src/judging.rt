@@ -2,17 +2,21 @@
 // `kind_of`, a function of its own and an arm of `judge`, a clause each in specs/Judging.antt, and a place in `tallies`.
 use crate::fields::field;
 use crate::fields::rest;
+use rule::RuleRead;
+use rule::read::read_rule;
 ghost use mathlib.Core.Path.{_≡_};
+ghost use Rattle.rule.specs.RuleText as rule_spec;
 ghost use Rattle.vectors.specs.Judging as spec;
 
-// The kinds of questions: is it a valid filter (`V`), Tree match (`T`), Plain match (`P`), is it a JSON document (`J`), and one whose
-// strings are within the limit (`L`).
+// The kinds of questions: is it a valid filter (`V`), Tree match (`T`), Plain match (`P`), is it a JSON document (`J`), one whose
+// strings are within the limit (`L`), and is it a rule (`R`).
 pub enum Kind {
     Valid,
     Tree,
     Plain,
     Document,
     Within,
+    RuleLine,
 }
 
 // What the first field of a line names.
@@ -41,6 +45,7 @@ fn kind_of(word: &[u8]) -> Named
         b'P' => Named::Of(Kind::Plain),
         b'J' => Named::Of(Kind::Document),
         b'L' => Named::Of(Kind::Within),
+        b'R' => Named::Of(Kind::RuleLine),
         _ => Named::Nothing,
     }
 }
@@ -111,6 +116,24 @@ fn within_line(line: &[u8]) -> Judged
     compared(Kind::Within, answer, field(line, 1))
 }
 
+// Is the line a plugin rule?
+fn is_rule(line: &[u8]) -> bool
+    ensures { λ r. ⌜ r ≡ spec.isRule (rule_spec.readRule (now (line .entry))) ⌝ }
+{
+    match read_rule(line) {
+        RuleRead::Rule(_) => true,
+        RuleRead::Refused(_) => false,
+    }
+}
+
+// A line `R`, answer, rule line.
+fn rule_line(line: &[u8]) -> Judged
+    ensures { λ r. ⌜ r ≡ spec.asked (now (line .entry)) Kind.RuleLine ⌝ }
+{
+    let answer = is_rule(rest(line, 2));
+    compared(Kind::RuleLine, answer, field(line, 1))
+}
+
 // Does the line's answer agree with what this port answers?
 pub fn judge(line: &[u8]) -> Judged
     ensures { λ r. ⌜ r ≡ spec.judge (now (line .entry)) ⌝ }
@@ -123,6 +146,7 @@ pub fn judge(line: &[u8]) -> Judged
             Kind::Plain => plain_line(line),
             Kind::Document => document_line(line),
             Kind::Within => within_line(line),
+            Kind::RuleLine => rule_line(line),
         },
     }
 }

@@ -8,9 +8,9 @@ ghost use Prim.Native.Nat.{_<_};
 ghost use Rattle.vectors.specs.Tallies as spec;
 
 // The number of kinds, and the letter of each, in the order of `place`.
-const KINDS: usize = 5;
+const KINDS: usize = 6;
 
-const LETTERS: [u8; KINDS] = [b'V', b'T', b'P', b'J', b'L'];
+const LETTERS: [u8; KINDS] = [b'V', b'T', b'P', b'J', b'L', b'R'];
 
 // Where a kind is counted.
 fn place(kind: Kind) -> usize
@@ -22,6 +22,7 @@ fn place(kind: Kind) -> usize
         Kind::Plain => 2,
         Kind::Document => 3,
         Kind::Within => 4,
+        Kind::RuleLine => 5,
     }
 }
 

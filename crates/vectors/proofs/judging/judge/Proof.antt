@@ -49,6 +49,12 @@ enum-told-6 c = search needs
 within-line-requires : tie.Need-within-line-requires
 within-line-requires c κs = search needs
 
+enum-told-7 : tie.Need-enum-told-7
+enum-told-7 c = search needs
+
+rule-line-requires : tie.Need-rule-line-requires
+rule-line-requires c κs = search needs
+
 returns : tie.Need-returns
 unfolding judgeNamed
 returns c = sym (judge-by _ _ (c .before .before .kind-of .ensures) (c .before .before .before .field .ensures) (c .enum-told .given .1))
@@ -73,6 +79,10 @@ returns-6 : tie.Need-returns-6
 unfolding judgeNamed
 returns-6 c = c .within-line .ensures ∙ sym (judge-by _ _ (c .before .before .before .before .before .before .kind-of .ensures) (c .before .before .before .before .before .before .before .field .ensures) (c .before .before .before .before .kind .given .1 ∙ ap Of (c .before .enum-told6 .given .1)))
 
+returns-7 : tie.Need-returns-7
+unfolding judgeNamed
+returns-7 c = c .rule-line .ensures ∙ sym (judge-by _ _ (c .before .before .before .before .before .before .kind-of .ensures) (c .before .before .before .before .before .before .before .field .ensures) (c .before .before .before .before .kind .given .1 ∙ ap Of (c .before .enum-told7 .given .1)))
+
 pub judge-spec : {M : Type 1} → statement M
 judge-spec =
     tie.close
@@ -91,9 +101,12 @@ judge-spec =
     document-line-requires
     enum-told-6
     within-line-requires
+    enum-told-7
+    rule-line-requires
     returns
     returns-2
     returns-3
     returns-4
     returns-5
-    returns-6)
+    returns-6
+    returns-7)
