@@ -4,11 +4,12 @@ use std::hint::black_box;
 use std::str::FromStr;
 
 use rmqtt::topic::Topic;
+use rmqtt_acl::exposed::Rule;
 use serde_json::Value;
 
 use crate::inputs::Input;
 
-pub const KINDS: [&str; 5] = ["V", "T", "P", "P-parsed", "J"];
+pub const KINDS: [&str; 7] = ["V", "T", "P", "P-parsed", "J", "R", "R-parsed"];
 
 /// What the original does in each kind, for the reader of the table.
 pub const LEGEND: &str = "\
@@ -16,7 +17,9 @@ V         valid filter: Topic::from_str
 T         tree match: Topic::from_str of the text, then a tree with one filter, built beforehand
 P         plain match: Topic::from_str of the filter, then matches_str
 P-parsed  plain match: matches_str of a filter that was parsed beforehand
-J         a line of JSON: serde_json::from_slice::<Value>";
+J         a line of JSON: serde_json::from_slice::<Value>
+R         a rule line and its users: serde_json::from_slice, Rule::try_from, then Rule::hit
+R-parsed  a rule line and its users: Rule::try_from of a value that was parsed beforehand, then Rule::hit";
 
 /// Goes through the inputs until `n` calls are made; the number of yes.
 fn repeat(inputs: &[Input], n: usize, call: impl Fn(&Input) -> bool) -> usize {
@@ -33,6 +36,7 @@ pub fn bytes(kind: &str, inputs: &[Input]) -> f64 {
     let of = |i: &Input| match kind {
         "V" => i.checked.len(),
         "J" => i.line.len(),
+        "R" | "R-parsed" => i.rule.len(),
         _ => i.filter.len() + i.text.len(),
     };
     inputs.iter().map(of).sum::<usize>() as f64 / inputs.len() as f64
@@ -40,6 +44,11 @@ pub fn bytes(kind: &str, inputs: &[Input]) -> f64 {
 
 fn checked(text: &str) -> Topic {
     Topic::from_str(text).unwrap_or_else(|_| Topic::from(Vec::new()))
+}
+
+/// Is the value a rule that means the client?
+fn hits(value: &Value, i: &Input) -> bool {
+    Rule::try_from(value).is_ok_and(|rule| rule.hit(&i.id, None, Some(4), true).0)
 }
 
 /// Makes exactly `n` calls. The side is `port`, `rust`, or `none`, which makes
@@ -60,6 +69,14 @@ pub fn run(kind: &str, side: &str, inputs: &[Input], n: usize) -> usize {
         ("P-parsed", "rust") => repeat(inputs, n, |i| i.topic.matches_str(&i.text)),
         ("J", "port") => repeat(inputs, n, |i| port::is_document(i.line.as_bytes())),
         ("J", "rust") => repeat(inputs, n, |i| serde_json::from_slice::<Value>(i.line.as_bytes()).is_ok()),
+        ("R" | "R-parsed", "port") => repeat(inputs, n, |i| {
+            let (name, none) = ((true, i.name.as_bytes()), (false, &[][..]));
+            port::identity(i.rule.as_bytes(), i.client.as_bytes(), name, none, none, (true, 4)) == 1
+        }),
+        ("R", "rust") => {
+            repeat(inputs, n, |i| serde_json::from_slice(i.rule.as_bytes()).is_ok_and(|value| hits(&value, i)))
+        }
+        ("R-parsed", "rust") => repeat(inputs, n, |i| hits(&i.value, i)),
         (kind, side) => panic!("no such call: {kind} {side}"),
     }
 }

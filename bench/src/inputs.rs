@@ -6,6 +6,7 @@ use std::str::FromStr;
 
 use rmqtt::topic::Topic;
 use rmqtt::trie::TopicTree;
+use rmqtt::types::{ClientId, Id, UserName};
 use serde_json::Value;
 
 pub struct Input {
@@ -15,6 +16,12 @@ pub struct Input {
     pub checked: String,
     /// For J: a rule, or with another bracket at its end.
     pub line: String,
+    /// For R: the rule and its value, and who asks: one whom it means, or another.
+    pub rule: String,
+    pub value: Value,
+    pub client: &'static str,
+    pub name: &'static str,
+    pub id: Id,
     pub topic: Topic,
     pub tree: TopicTree<Option<u8>>,
 }
@@ -25,8 +32,12 @@ impl Input {
         let mut tree = TopicTree::default();
         tree.insert(&topic, None);
         let checked = if answer { filter.into() } else { format!("{filter}+") };
-        let line = if answer { line } else { format!("{}}}", &line[..line.len() - 1]) };
-        Input { filter: filter.into(), text: text.into(), checked, line, topic, tree }
+        let rule = line;
+        let line = if answer { rule.clone() } else { format!("{}}}", &rule[..rule.len() - 1]) };
+        let value = serde_json::from_str(&rule).expect("a value");
+        let (client, name) = ("g7", if answer { "bo" } else { "al" });
+        let id = Id::new(None, ClientId::from(client), Some(UserName::from(name)));
+        Input { filter: filter.into(), text: text.into(), checked, line, rule, value, client, name, id, topic, tree }
     }
 }
 

@@ -3,9 +3,11 @@
 //! Compares the port's exported functions with the original Rust: V, whether a
 //! text is a valid filter; T, the tree match; P, the plain match. First all
 //! texts over `a $ + # /`, for T and P up to the length, for V three longer;
-//! then random ones for half of SECONDS. And with serde_json: J, whether a line
+//! then random ones for a third of SECONDS. With serde_json: J, whether a line
 //! is a document; L, whether its strings are within a limit. First all short
-//! lines, then random ones for the other half. Exit status 1 if anything differs.
+//! lines, then random ones for a third. And with the plugin: R, whether a line is
+//! a rule; I, whether it means a client. First all combinations of a rule's parts,
+//! then random ones for a third. Exit status 1 if anything differs.
 
 mod phases;
 mod tally;
@@ -60,9 +62,13 @@ fn main() -> ExitCode {
     phase(&format!("T and P, all pairs up to {length} bytes"), &mut all, || phases::short_pairs(length));
     phase("J and L, all short lines", &mut all, phases::short_lines);
     phase("J and L, all damages of a few lines", &mut all, phases::damaged_lines);
-    let half = || Instant::now() + Duration::from_secs(seconds) / 2;
-    phase(&format!("V, T and P, random, seed {seed}"), &mut all, || phases::random(seed, half()));
-    phase(&format!("J and L, random, seed {seed}"), &mut all, || phases::random_lines(seed, half()));
+    phase("R, all combinations of a few parts", &mut all, phases::short_rules);
+    phase("R and I, all combinations of a few users and clients", &mut all, phases::short_identities);
+    phase("R and I, all damages of a few rules", &mut all, phases::damaged_rules);
+    let third = || Instant::now() + Duration::from_secs(seconds) / 3;
+    phase(&format!("V, T and P, random, seed {seed}"), &mut all, || phases::random(seed, third()));
+    phase(&format!("J and L, random, seed {seed}"), &mut all, || phases::random_lines(seed, third()));
+    phase(&format!("R and I, random, seed {seed}"), &mut all, || phases::random_rules(seed, third()));
     println!("\n{all}");
     if all.differences() == 0 {
         ExitCode::SUCCESS

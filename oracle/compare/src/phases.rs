@@ -11,6 +11,7 @@ use oracle::json::lines::RICH;
 use oracle::json::short::{families, Family};
 use oracle::json::{self, judge, Judged};
 use oracle::matching::{self, checked, filter, tree};
+use oracle::rules::{self, Client, Judged as JudgedRule};
 
 use crate::tally::Tally;
 
@@ -149,6 +150,74 @@ pub fn random_lines(seed: u64, until: Instant) -> Tally {
             compare_line(&line, tally);
             for _ in 0..3 {
                 compare_line(&json::generate::damaged(&mut r, &line), tally);
+            }
+        }
+        Instant::now() < until
+    })
+}
+
+/// R, and I of these clients.
+fn compare_rule<'a>(line: &[u8], clients: impl IntoIterator<Item = &'a Client>, tally: &mut Tally) {
+    let judged = rules::judge(line);
+    tally.count_rule(line, judged.verdict, port::rule_refusal(line));
+    clients.into_iter().for_each(|client| compare_identity(line, &judged, client, tally));
+}
+
+fn compare_identity(line: &[u8], judged: &JudgedRule, client: &Client, tally: &mut Tally) {
+    let Client { id, name, password, address, protocol } = client;
+    let port = port::identity(
+        line,
+        id.as_bytes(),
+        (name.given, name.value.as_bytes()),
+        (password.given, &password.value),
+        (address.given, address.value.as_bytes()),
+        (protocol.given, protocol.value),
+    );
+    tally.count_identity(line, client, judged.identity(client), port);
+}
+
+/// R of all combinations of a rule's parts.
+pub fn short_rules() -> Tally {
+    const BLOCK: usize = 1 << 12;
+    in_blocks(|block, tally| {
+        let mut rules = (block * BLOCK..(block + 1) * BLOCK).map_while(rules::short::rule).peekable();
+        let any = rules.peek().is_some();
+        rules.for_each(|line| compare_rule(&line, [], tally));
+        any
+    })
+}
+
+/// I of all combinations of users with all clients of a few values.
+pub fn short_identities() -> Tally {
+    let clients = rules::short::clients();
+    in_blocks(|block, tally| {
+        let Some(line) = rules::short::users(block) else { return false };
+        compare_rule(&line, &clients, tally);
+        true
+    })
+}
+
+/// R and I of some rules with every single damage.
+pub fn damaged_rules() -> Tally {
+    in_blocks(|block, tally| {
+        let Some(rule) = rules::short::RULES.get(block) else { return false };
+        let client = rules::generate::client(&mut Random::new(0), rule.as_bytes());
+        json::short::damaged(rule.as_bytes()).for_each(|line| compare_rule(&line, [&client], tally));
+        true
+    })
+}
+
+/// R and I of random rules and damaged copies, until the time is up.
+pub fn random_rules(seed: u64, until: Instant) -> Tally {
+    in_blocks(|block, tally| {
+        let mut r = Random::of_block(seed, block as u64);
+        for _ in 0..500 {
+            let elements = rules::generate::elements(&mut r);
+            let mut lines = vec![rules::generate::line(&mut r, &elements)];
+            lines.extend((0..3).map(|_| rules::generate::damaged(&mut r, &elements)));
+            for line in &lines {
+                let clients: Vec<_> = (0..4).map(|_| rules::generate::client(&mut r, line)).collect();
+                compare_rule(line, &clients, tally);
             }
         }
         Instant::now() < until

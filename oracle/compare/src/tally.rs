@@ -4,10 +4,12 @@ use std::fmt;
 
 use oracle::cases::{word, Case, Kind};
 use oracle::json::{judge, Judged};
+use oracle::rules::{self, Client, Identity, Verdict};
 
 /// The rows of the table: kind and the Rust's answer. Intended are answers no to
-/// a line that serde_json reads and document 01 doesn't.
-const ROWS: [(&str, &str); 12] = [
+/// a line that serde_json reads, or the plugin takes for a rule, and document 01
+/// doesn't; and an address that only document 01 can have.
+const ROWS: [(&str, &str); 25] = [
     ("V", "yes"),
     ("V", "no"),
     ("T", "yes"),
@@ -20,30 +22,38 @@ const ROWS: [(&str, &str); 12] = [
     ("J", "intended: depth"),
     ("L", "yes"),
     ("L", "no"),
+    ("R", "yes"),
+    ("R", "no: 1, too long"),
+    ("R", "no: 5, not JSON"),
+    ("R", "no: 6, no rule"),
+    ("R", "intended: numbers"),
+    ("R", "intended: depth"),
+    ("R", "intended: lengths"),
+    ("I", "differs"),
+    ("I", "agrees"),
+    ("I", "superuser"),
+    ("I", "no rule"),
+    ("I", "intended: line"),
+    ("I", "intended: address"),
 ];
-const KINDS: usize = 5;
 
 /// A case that differs.
 enum Asked {
     Match(Case),
     Document(Vec<u8>),
     Within(Vec<u8>, usize),
+    /// The port's answer last.
+    Rule(Vec<u8>, u8),
+    Identity(Vec<u8>, Client, u8),
 }
 
 impl Asked {
-    fn kind(&self) -> usize {
-        match self {
-            Asked::Match(case) => case.kind as usize,
-            Asked::Document(_) => 3,
-            Asked::Within(..) => 4,
-        }
-    }
-
     /// The smallest is the least in this order.
     fn order(&self) -> (usize, &[u8], &[u8]) {
         match self {
             Asked::Match(case) => (case.size(), case.filter.as_bytes(), case.text.as_bytes()),
-            Asked::Document(line) | Asked::Within(line, _) => (line.len(), line, &[]),
+            Asked::Document(line) | Asked::Within(line, _) | Asked::Rule(line, _) => (line.len(), line, &[]),
+            Asked::Identity(line, client, _) => (line.len() + client.size(), line, client.id.as_bytes()),
         }
     }
 }
@@ -53,8 +63,8 @@ impl Asked {
 pub struct Tally {
     cases: [u64; ROWS.len()],
     differences: [u64; ROWS.len()],
-    /// Of each kind the smallest case that differs.
-    smallest: [Option<Asked>; KINDS],
+    /// Of each row the smallest case that differs.
+    smallest: [Option<Asked>; ROWS.len()],
 }
 
 impl Tally {
@@ -91,14 +101,47 @@ impl Tally {
         }
     }
 
+    /// Counts one line of R.
+    pub fn count_rule(&mut self, line: &[u8], verdict: Verdict, port: u8) {
+        let row = match verdict {
+            Verdict::Rule => 12,
+            Verdict::Refused(1) => 13,
+            Verdict::Refused(5) => 14,
+            Verdict::Refused(_) => 15,
+            Verdict::Number => 16,
+            Verdict::Deep => 17,
+            Verdict::Long => 18,
+        };
+        self.cases[row] += 1;
+        if verdict.number() != port {
+            self.differ(row, Asked::Rule(line.into(), port));
+        }
+    }
+
+    /// Counts one question of I.
+    pub fn count_identity(&mut self, line: &[u8], client: &Client, rust: Identity, port: u8) {
+        let row = match rust {
+            Identity::Differs => 19,
+            Identity::Agrees => 20,
+            Identity::Superuser => 21,
+            Identity::NoRule => 22,
+            Identity::RustOnly => 23,
+            Identity::NoAddress(_) => 24,
+        };
+        self.cases[row] += 1;
+        if rust.number() != port {
+            self.differ(row, Asked::Identity(line.into(), client.clone(), port));
+        }
+    }
+
     #[cold]
     fn differ(&mut self, row: usize, asked: Asked) {
         self.differences[row] += 1;
-        self.keep(asked);
+        self.keep(row, asked);
     }
 
-    fn keep(&mut self, asked: Asked) {
-        let kept = &mut self.smallest[asked.kind()];
+    fn keep(&mut self, row: usize, asked: Asked) {
+        let kept = &mut self.smallest[row];
         if kept.as_ref().is_none_or(|k| asked.order() < k.order()) {
             *kept = Some(asked);
         }
@@ -109,7 +152,9 @@ impl Tally {
             self.cases[row] += other.cases[row];
             self.differences[row] += other.differences[row];
         }
-        other.smallest.into_iter().flatten().for_each(|asked| self.keep(asked));
+        for (row, asked) in other.smallest.into_iter().enumerate() {
+            asked.into_iter().for_each(|asked| self.keep(row, asked));
+        }
     }
 
     pub fn total(&self) -> u64 {
@@ -152,6 +197,19 @@ impl fmt::Display for Asked {
                 writeln!(f, "\ndifference, L: at most {most} bytes, line b\"{}\"", line.escape_ascii())?;
                 writeln!(f, "  judged: {:?}", judge(line))?;
                 judge(line).is_within(*most)
+            }
+            Asked::Rule(line, port) => {
+                writeln!(f, "\ndifference, R: line b\"{}\"", line.escape_ascii())?;
+                let verdict = rules::judge(line).verdict;
+                let number = verdict.number();
+                return writeln!(f, "  judged: {verdict:?}; the judge answers {number}, the port {port}");
+            }
+            Asked::Identity(line, client, port) => {
+                writeln!(f, "\ndifference, I: line b\"{}\"", line.escape_ascii())?;
+                writeln!(f, "  {client:?}")?;
+                let judged = rules::judge(line).identity(client);
+                let number = judged.number();
+                return writeln!(f, "  judged: {judged:?}; the judge answers {number}, the port {port}");
             }
         };
         writeln!(f, "  the judge answers {}, the port {}", word(rust), word(!rust))

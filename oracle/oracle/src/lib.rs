@@ -1,6 +1,6 @@
 //! The original Rust, asked. Nothing here decides about access: every answer is
-//! one of `Topic`, `TopicTree`, `AclHandler::hook` or `AuthInfo`, or for a line of
-//! JSON serde_json's.
+//! one of `Topic`, `TopicTree`, `Rule`, `AclHandler::hook` or `AuthInfo`, or for a
+//! line of JSON serde_json's.
 
 pub mod cases;
 pub mod decide;
@@ -9,6 +9,7 @@ pub mod json;
 pub mod matching;
 pub mod perclient;
 pub mod record;
+pub mod rules;
 
 /// One thread, so that the plugin's spawned task runs only while it is awaited.
 pub fn runtime() -> tokio::runtime::Runtime {

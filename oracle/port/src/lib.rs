@@ -14,6 +14,24 @@ mod exported {
         ) -> bool;
         pub fn acl_is_document(line: *const u8, line_len: usize) -> bool;
         pub fn acl_is_document_within(line: *const u8, line_len: usize, most: usize) -> bool;
+        pub fn acl_rule_refusal(line: *const u8, line_len: usize) -> u8;
+        pub fn acl_identity(
+            line: *const u8,
+            line_len: usize,
+            id: *const u8,
+            id_len: usize,
+            has_name: bool,
+            name: *const u8,
+            name_len: usize,
+            has_password: bool,
+            password: *const u8,
+            password_len: usize,
+            has_address: bool,
+            address: *const u8,
+            address_len: usize,
+            has_protocol: bool,
+            protocol: u8,
+        ) -> u8;
     }
 }
 
@@ -40,4 +58,44 @@ pub fn is_document(line: &[u8]) -> bool {
 pub fn is_document_within(line: &[u8], most: usize) -> bool {
     // SAFETY: as above, the slice.
     unsafe { exported::acl_is_document_within(line.as_ptr(), line.len(), most) }
+}
+
+/// 0 a rule, 1 too long, 5 not the JSON, 6 not a rule.
+pub fn rule_refusal(line: &[u8]) -> u8 {
+    // SAFETY: as above.
+    unsafe { exported::acl_rule_refusal(line.as_ptr(), line.len()) }
+}
+
+/// A value that may be absent: whether it is given, and what is lent in any case.
+pub type Lent<T> = (bool, T);
+
+/// 0 differs, 1 agrees, 2 agrees with the superuser flag, 3 the line is no rule.
+pub fn identity(
+    line: &[u8],
+    id: &[u8],
+    name: Lent<&[u8]>,
+    password: Lent<&[u8]>,
+    address: Lent<&[u8]>,
+    protocol: Lent<u8>,
+) -> u8 {
+    // SAFETY: as above, all slices.
+    unsafe {
+        exported::acl_identity(
+            line.as_ptr(),
+            line.len(),
+            id.as_ptr(),
+            id.len(),
+            name.0,
+            name.1.as_ptr(),
+            name.1.len(),
+            password.0,
+            password.1.as_ptr(),
+            password.1.len(),
+            address.0,
+            address.1.as_ptr(),
+            address.1.len(),
+            protocol.0,
+            protocol.1,
+        )
+    }
 }
