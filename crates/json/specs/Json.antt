@@ -62,7 +62,7 @@ kindOf b =
     (cond (eqb b quote) Text
     (cond (eqb b 0x5b) Array (cond (eqb b 0x7b) Object (cond (between 0x61 0x7a b) Word (cond (isBlank b) Blank Other)))))
 
--- the digits at the front, readAs numbers
+-- the digits at the front, read as numbers
 unfoldable pub digits : List ℕ → List ℕ
 digits [] = []
 digits (b ∷ s) = cond (between 0x30 0x39 b) ((b - 0x30) ∷ digits s) []

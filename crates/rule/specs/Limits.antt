@@ -1,4 +1,4 @@
--- The limits of document 01, each written once.
+-- The limits of rules and rule texts, from document 01, each written once.
 use Prim.Native.Nat.{ℕ}
 
 -- "over 2,048 bytes": a line
