@@ -6,11 +6,11 @@ use mathlib.Core.Bool.{Bool, true, false, cond, Bool·beq}
 use mathlib.Core.List.{List, [], _∷_, _++_}
 use mathlib.Core.Option.{Option}
 use mathlib.Core.Path.{_≡_, refl, sym, _∙_, ap}
-use lib.ListN.{length}
+use lib.ListN.{length, length-map}
 use Rattle.json.specs.Lines.{lines}
 use Rattle.rule.specs.Rule.{Rule, Meaning, means, TopicOf, isTemplate}
 use Rattle.rule.specs.Fill.{fill}
-use Rattle.rule.specs.RuleText.{Result, refused, gives, Filled, readRule, ruleMeanings, rulesOf, filledTopics, listed, filledRules, filled, ofKind}
+use Rattle.rule.specs.RuleText.{Filled, readRule, ruleOn, rulesOf, filledTopics, listed, filledRules, filled, ofKind}
 
 -- the rule's number of each is below m
 abbrev pub Below : ℕ → List Filled → Type 0
@@ -31,31 +31,19 @@ topics-below n m id name (t ∷ topics) h = by (isTemplate (t .text)) (topics-be
     by true k = (h, k)
     by false k = k
 
-rules-below : (n m : ℕ) (id : List ℕ) (name : Option (List ℕ)) (rules : List Meaning) → n + length rules ≤ m → Below m (filledRules n id name rules)
+rules-below : (n m : ℕ) (id : List ℕ) (name : Option (List ℕ)) (rules : List (Option Meaning)) → n + length rules ≤ m → Below m (filledRules n id name rules)
 unfolding filledRules
 rules-below n m id name [] h = tt
 rules-below n m id name (r ∷ rules) h =
-    below-append m (filledTopics n id name (listed (r .topics))) (filledRules (suc n) id name rules)
-    (topics-below n m id name (listed (r .topics)) (omega arith))
+    below-append m (filledTopics n id name (listed r)) (filledRules (suc n) id name rules)
+    (topics-below n m id name (listed r) (omega arith))
     (rules-below (suc n) m id name rules (omega arith))
-
--- no more rules than lines
-rules-fewer : (ls : List (List ℕ)) → length (ruleMeanings ls) ≤ length ls
-unfolding ruleMeanings
-rules-fewer [] = omega arith
-rules-fewer (line ∷ rest) = by (readRule line) (rules-fewer rest)
-  where
-    by : (r : Result Rule) → length (ruleMeanings rest) ≤ length rest
-        → length {A = Meaning} (elim r [ refused cause ↦ ruleMeanings rest | gives r ↦ means r ∷ ruleMeanings rest ]) ≤ suc (length rest)
-    by (refused cause) h = omega arith
-    by (gives r) h = omega arith
 
 -- "its rule's number, counted from 0", is below the number of lines
 pub filled-below : (t id : List ℕ) (name : Option (List ℕ)) → Below (length (lines t)) (filled t id name)
 unfolding filled rulesOf
 filled-below t id name =
-    let fewer = rules-fewer (lines t) in
-    rules-below 0 (length (lines t)) id name (ruleMeanings (lines t)) (omega arith)
+    let e = length-map (lines t) (λ line. ruleOn (readRule line)) in rules-below 0 (length (lines t)) id name (rulesOf t) (omega arith)
 
 -- each is a filter or an eq
 pub kinds-length : (fs : List Filled) → length (ofKind false fs) + length (ofKind true fs) ≡ length fs

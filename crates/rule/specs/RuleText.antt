@@ -65,13 +65,13 @@ unfoldable pub textFault : List ℕ → Option Fault
 textFault t =
     cond (ltb linesLimit (length (lines t))) (some (record { cause = TooLong; line = suc linesLimit })) (faultIn 1 (lines t))
 
--- the rules of a text that has no fault
-unfoldable pub ruleMeanings : List (List ℕ) → List Meaning
-ruleMeanings [] = []
-ruleMeanings (line ∷ rest) = elim (readRule line) [ refused cause ↦ ruleMeanings rest | gives r ↦ means r ∷ ruleMeanings rest ]
+-- the rules of a text: each line has one, or is refused
+unfoldable pub ruleOn : Result Rule → Option Meaning
+ruleOn (refused cause) = none
+ruleOn (gives r) = some (means r)
 
-unfoldable pub rulesOf : List ℕ → List Meaning
-rulesOf t = ruleMeanings (lines t)
+unfoldable pub rulesOf : List ℕ → List (Option Meaning)
+rulesOf t = map (λ line. ruleOn (readRule line)) (lines t)
 
 -- a filled template: its rule's number from 0, whether it is an eq, and the text
 pub record Filled : Type 0 where
@@ -87,14 +87,15 @@ filledTopics n id name (t ∷ topics) =
     (record { rule = n; eq = t .eq; text = fill (t .text) id name } ∷ filledTopics n id name topics)
     (filledTopics n id name topics)
 
-unfoldable pub listed : Option (List (TopicOf (List ℕ))) → List (TopicOf (List ℕ))
+-- the topics that a rule lists
+unfoldable pub listed : Option Meaning → List (TopicOf (List ℕ))
 listed none = []
-listed (some topics) = topics
+listed (some r) = elim (r .topics) [ none ↦ [] | some topics ↦ topics ]
 
 -- "in rule and template order", the rules counted from `n`
-unfoldable pub filledRules : ℕ → List ℕ → Option (List ℕ) → List Meaning → List Filled
+unfoldable pub filledRules : ℕ → List ℕ → Option (List ℕ) → List (Option Meaning) → List Filled
 filledRules n id name [] = []
-filledRules n id name (r ∷ rules) = filledTopics n id name (listed (r .topics)) ++ filledRules (suc n) id name rules
+filledRules n id name (r ∷ rules) = filledTopics n id name (listed r) ++ filledRules (suc n) id name rules
 
 unfoldable pub filled : List ℕ → List ℕ → Option (List ℕ) → List Filled
 filled t id name = filledRules 0 id name (rulesOf t)
