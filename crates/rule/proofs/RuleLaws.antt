@@ -51,11 +51,11 @@ use Rattle.rule.proofs.ReadLaws.{here-by}
 -- ---- the elements of the line's array, by their places
 
 -- this value stands at its place, and no string in it is over the limit
-abbrev Stands : List ℕ → Option Value → Type 0
+abbrev pub Stands : List ℕ → Option Value → Type 0
 Stands line none = Unit {0}
 Stands line (some v) = (next : ℕ) × (valueHere line (v .at) ≡ some (record { value = v .value; next = next })) × (longest (v .value) ≤ textLimit)
 
-nth-stands : (line : List ℕ) (low high : ℕ) (es : Elements) (n : ℕ) → ElementsIn line low high es → longestElement es ≤ textLimit → Stands line (nth n es)
+pub nth-stands : (line : List ℕ) (low high : ℕ) (es : Elements) (n : ℕ) → ElementsIn line low high es → longestElement es ≤ textLimit → Stands line (nth n es)
 unfolding nth longestElement
 nth-stands line low high no-element zero h k = tt
 nth-stands line low high no-element (suc n) h k = tt
@@ -74,7 +74,7 @@ next-part line low high no-element (suc n) h = refl
 next-part line low high (element at value rest) zero h = h .2 .onward ∙ first-part rest
 next-part line low high (element at value rest) (suc n) h = next-part line (h .0) high rest n (h .3)
 
-value-stands : (line : List ℕ) (v : Value) → Stands line (some v) → valueOf line (v .at) ≡ some v
+pub value-stands : (line : List ℕ) (v : Value) → Stands line (some v) → valueOf line (v .at) ≡ some v
 unfolding valueOf bind
 value-stands line v h = ap (λ (o : Option (Read Json)). bind o (λ r. some (record { at = v .at; value = r .value }))) (h .1)
 
@@ -188,7 +188,7 @@ too-many-is line (some v) h = ap overTopics (count-is line (v .at) (h .1)) ∙ b
 -- ---- the topics
 
 -- is something given?
-unfoldable isSome : {A : Type 0} → Option A → Bool
+unfoldable pub isSome : {A : Type 0} → Option A → Bool
 isSome none = false
 isSome (some a) = true
 
@@ -217,7 +217,7 @@ named-fits name (member at n value-at value rest) found h k =
     by true = omega arith
     by false = k
 
-topic-is : (v : Value) → longest (v .value) ≤ textLimit → isTopic (topicAnswer (topicOf v)) ≡ isSome (topicOf v)
+pub topic-is : (v : Value) → longest (v .value) ≤ textLimit → isTopic (topicAnswer (topicOf v)) ≡ isSome (topicOf v)
 unfolding topicOf asObject asText topicAnswer isSome bind isTopic longest
 topic-is v = by (v .value)
   where

@@ -1,3 +1,4 @@
 pub mod ByteLaws
 pub mod RowLaws
+pub mod JoinLaws
 pub mod TableLaws

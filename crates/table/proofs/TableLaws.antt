@@ -1,4 +1,4 @@
--- Laws of `specs/Table.antt`, for every table at once. What a table holds is read through `some-row`: two tables are alike if every
+-- Laws of `specs/Table.antt`, for all three tables at once. What a table holds is read through `some-row`: two tables are alike if every
 -- test finds a row in both or in neither. Assumes nothing.
 use mathlib.Core.Path.{_≡_, refl, sym, ap, _∙_}
 use mathlib.Core.Bool.{Bool, true, false, _&&_, _||_, not, cond, Bool-set, true≢false, and-true, and-false, or-false, or-true, or-assoc, or-comm, and-assoc, and-comm}
@@ -119,16 +119,16 @@ module _ {Row : Type 0} where
   spared c d p e = some-on (new d) (λ r m. rw (not-false (stays c r) (none-at (λ t. not (stays c t)) e m), and-true))
 
 module _ {Row : Type 0} (same : Row → Row → Bool) where
-  -- adding rows never shortens a table
+  -- adding never shortens a table
   pub add-all-longer : (new rows : List Row) → length rows ≤ length (add-all same new rows)
   unfolding add-all add
   add-all-longer [] rows = omega arith
-  add-all-longer (r ∷ new) rows = at (some-row (same r) rows) (add-all-longer new)
+  add-all-longer (r ∷ new) rows = at (some-row (same r) rows) (add-all-longer new (add same r rows))
     where
-      at : (b : Bool) → ((more : List Row) → length more ≤ length (add-all same new more))
-          → length rows ≤ length (add-all same new (cond b rows (rows ++ (r ∷ []))))
-      at true below = below rows
-      at false below = let h = below (rows ++ (r ∷ [])) in omega (arith, length-append rows (r ∷ []))
+      at : (b : Bool) → length (cond b rows (rows ++ (r ∷ []))) ≤ length (add-all same new (add same r rows))
+          → length rows ≤ length (add-all same new (add same r rows))
+      at true h = h
+      at false h = omega (arith, length-append rows (r ∷ []))
 
 -- the test is equality
 pub record Equals {Row : Type 0} (same : Row → Row → Bool) : Type 0 where
@@ -281,6 +281,29 @@ module _ {Row : Type 0} {same : Row → Row → Bool} (E : Equals same) where
     where
       across : (rows rows₁ : List Row) → Same rows rows₁ → (r : Row) → List·Mem r rows → List·Mem r rows₁
       across rows rows₁ h r m = ∥∥₁-map m (λ d. member r rows₁ (sym (h (same r)) ∙ present (same r) d (itself r)))
+
+-- rows that are written so that they can be read back are equal as written if and only if they are equal
+module _ {Row Written : Type 0} {same : Row → Row → Bool} {alike : Written → Written → Bool} (E : Equals same) (F : Equals alike) where
+  pub distinct-map : (put : Row → Written) (get : Written → Row) (rows : List Row) → ((r : Row) → List·Memᴰ r rows → get (put r) ≡ r)
+      → distinct alike (map put rows) ≡ distinct same rows
+  unfolding distinct
+  distinct-map put get [] back = refl
+  distinct-map put get (r ∷ rows) back =
+      rw (
+        some-map (alike (put r)) put rows,
+        some-on {p = λ t. alike (put r) (put t)} {q = same r} rows (λ t m. pair t (back t (List·Memᴰ·tail m))),
+        distinct-map put get rows (λ t m. back t (List·Memᴰ·tail m)),
+      )
+    where
+      pair : (t : Row) → get (put t) ≡ t → alike (put r) (put t) ≡ same r t
+      pair t e =
+          both-true _ _
+          (λ q.
+          let here = back r (List·Memᴰ·head refl) in
+          let written = F .agree _ _ q in
+          let equal : r ≡ t = sym here ∙ ap get written ∙ e in
+          rw equal (E .itself t))
+          (λ q. rw (E .agree r t q) (F .itself (put t)))
 
 pub perm-length : {Row : Type 0} {rows rows₁ : List Row} → Perm rows rows₁ → length rows ≡ length rows₁
 perm-length p = ∥∥₁-elim p (ℕ-set _ _) go

@@ -22,7 +22,7 @@ unfoldable pub zeros : List ℕ → Bool
 zeros [] = true
 zeros (b ∷ s) = eqb b 0 && zeros s
 
--- the bytes from `from` to before `to` set to zero, where they lie in the list
+-- the bytes from `from` to before `to` set to zero; where not all of them lie in the list, the list as it was
 unfoldable pub cleared : ℕ → ℕ → List ℕ → List ℕ
 cleared from to s = cond (leb from to && leb to (length s)) (take from s ++ (replicate (to - from) 0 ++ drop to s)) s
 
@@ -35,7 +35,7 @@ rows size (suc n) s = cond (leb size (length s)) (take size s ∷ rows size n (d
 unfoldable pub rowAt : ℕ → ℕ → List ℕ → List ℕ
 rowAt size i s = cond (leb (i * size + size) (length s)) (take size (drop (i * size) s)) []
 
--- is the row one of the first `used`?
+-- is the row one of the first `used`? The table's rows have this row's length
 unfoldable pub present : List ℕ → ℕ → List ℕ → Bool
 present row used s = some-row (same row) (rows (length row) used s)
 
@@ -69,6 +69,7 @@ removed size used marks s =
     join (kept size used marks s)
     ++ (replicate ((length (rows size used s) - length (kept size used marks s)) * size) 0 ++ drop (length (rows size used s) * size) s)
 
--- a table put back to an earlier number of used rows: the rows behind them are zero again
+-- a table put back to an earlier number of used rows: the rows behind them are zero again, as unused rows are; where the table has not
+-- so many, the table as it was
 unfoldable pub restored : ℕ → ℕ → ℕ → List ℕ → List ℕ
 restored size earlier used s = cleared (earlier * size) (used * size) s
