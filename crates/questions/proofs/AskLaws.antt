@@ -1,0 +1,294 @@
+-- Laws of the three questions on a store: its parts as the code cuts them are what it means, and each kind of answer. Assumes nothing.
+use Prim.Native.Nat.{ℕ, zero, suc, _+_, _-_, _*_, _≤_, _<_}
+use mathlib.Core.Path.{_≡_, refl, sym, ap, _∙_}
+use mathlib.Core.Bool.{Bool, true, false, _||_, cond, or-true}
+use mathlib.Core.List.{List, [], _∷_, _++_, map}
+use mathlib.Core.Option.{Option, none, some}
+use native.Mathlib.Omega.{arith}
+use native.Mathlib.Nat.{add-sub-cancel-left, mul-le-mul-right, le-mul-of-pos-right}
+use borrow.Author.Tests.{ltb-true, ltb-false, lt-ltb, le-ltb, le-leb, lt-leb, eq-eqb, ne-eqb, eqb-false}
+use lib.Dec.{ltb, eqb}
+use lib.ListN.{length, take, drop, length-append, length-take}
+use lib.Seq.{take-at, drop-at, take-take}
+use Rattle.text.proofs.Laws.{or-split}
+use Rattle.table.specs.Table.{some-row}
+use Rattle.table.specs.Bytes.{rows, join}
+use Rattle.rule.specs.RuleText.{rulesOf}
+use Rattle.rule.specs.Rule.{Meaning}
+use Rattle.rule.specs.Identity.{Client, superuser}
+use Rattle.rule.specs.Places.{given}
+use Rattle.rule.specs.Refusals.{first}
+use Rattle.rule.specs.declared.Given.{Given}
+use Rattle.rule.specs.declared.Given.the-variants.{Absent, Length}
+use Rattle.store.specs.Store.{over, filterSize, eqSize, storeLength, View}
+use Rattle.store.specs.Layout.{pad, Codec, filterCodec, numberedCodec, getAll, putAll, area, layout, filtersAt, eqsAt, textPart, filterPart, eqPart}
+use Rattle.store.specs.View.{view}
+use Rattle.store.specs.Check.{shapeOf}
+use Rattle.store.specs.declared.Shape.{Shape}
+use Rattle.store.specs.declared.ShapeRead.the-variants.{LaidOut, Malformed}
+use Rattle.store.proofs.LayoutLaws.{Reads, Fits, eq-reads, filter-reads, pad-take, put-all-length, counts-back, layout-length, text-part, filter-part, eq-part, well-formed-fits}
+use Rattle.store.proofs.ViewLaws.{view-layout, view-well-formed}
+use Rattle.questions.specs.Question.{Question, Decision, kept, Reply, refuses, decides, connects, subscribes, publishes, codeLimit, overGiven, clientOver, questionCause}
+use Rattle.questions.specs.Question as question
+use Rattle.questions.specs.Decision.{Wish, client, wish, keeps, firstFrom, refusal, allowance, byRule, orKept, decide, decided, askView, ask}
+use Rattle.questions.specs.Parts.{filterRows, eqRows, decidingOf, deciding, decidingOn}
+use Rattle.questions.specs.declared.Deciding.{Deciding}
+use Rattle.questions.specs.declared.Deciding.the-variants.{Rule as ByRule, NoRule}
+
+-- ---- an optional text over its limit
+
+pub absent-over : {text : Given} (lent : List ℕ) (limit : ℕ) → text ≡ Absent → overGiven limit (given text lent) ≡ false
+unfolding overGiven given
+absent-over lent limit e = rw e
+
+-- the length that is told is within the limit
+pub within-over : {text : Given} {n : ℕ} (lent : List ℕ) (limit : ℕ) → text ≡ Length n → n ≤ limit → overGiven limit (given text lent) ≡ false
+unfolding overGiven given
+within-over {n = n} lent limit e h = rw e (le-ltb limit (length (take n lent)) (omega (arith, length-take n lent)))
+
+-- else the slice's own length decides
+pub length-over : {text : Given} {n : ℕ} (lent : List ℕ) (limit : ℕ) → text ≡ Length n → limit < n → overGiven limit (given text lent) ≡ ltb limit (length lent)
+unfolding overGiven given
+length-over {n = n} lent limit e h = rw e (at (ltb limit (length lent)) refl)
+  where
+    at : (b : Bool) → ltb limit (length lent) ≡ b → ltb limit (length (take n lent)) ≡ b
+    at true q = lt-ltb limit (length (take n lent)) (omega (arith, length-take n lent, ltb-true limit (length lent) q))
+    at false q = le-ltb limit (length (take n lent)) (omega (arith, length-take n lent, ltb-false limit (length lent) q))
+
+-- ---- the used part of a stretch, as the code cuts it
+
+cut-pad : {n : ℕ} (from width : ℕ) (text s : List ℕ) → length text ≤ width → take width (drop from s) ≡ pad width text → n ≡ length text
+    → take (from + n - from) (drop from s) ≡ text
+cut-pad {n} from width text s h whole e = rw (add-sub-cancel-left from n, e, ← take-take (length text) width (drop from s) h, whole) (pad-take width text)
+
+rows-none : (size n : ℕ) → 0 < size → rows size n [] ≡ []
+unfolding rows
+rows-none size zero h = refl
+rows-none size (suc n) h = rw (lt-leb size 0 h)
+
+module _ {Row : Type 0} {c : Codec Row} {bad : Row → Bool} (R : Reads c bad) (some-size : 0 < c .size) where
+  -- any number from that of the rows on finds them all
+  all-back : (n : ℕ) (rs : List Row) → some-row bad rs ≡ false → length rs ≤ n → getAll c n (putAll c rs) ≡ rs
+  unfolding getAll putAll join rows some-row
+  all-back n [] e h = ap (map (c .get)) (rows-none (c .size) n some-size)
+  all-back zero (r ∷ rs) e h = absurd (omega arith)
+  all-back (suc n) (r ∷ rs) e h =
+      let s = or-split (bad r) _ e in
+      let sized = R .sized r (s .0) in
+      let rest : List ℕ = join (map (c .put) rs) in
+      let there : c .size ≤ length (c .put r ++ rest) = omega (arith, length-append (c .put r) rest) in
+      rw (le-leb (c .size) _ there, take-at (c .put r) rest _ sized, drop-at (c .put r) rest _ sized, R .back r (s .0))
+      (ap (λ (t : List Row). r ∷ t) (all-back n rs (s .1) (omega arith)))
+
+  -- of a table
+  used-back : {n : ℕ} (from room : ℕ) (rs : List Row) (s : List ℕ) → some-row bad rs ≡ false → length rs ≤ room
+      → take (room * c .size) (drop from s) ≡ area c room rs → n ≡ length rs
+      → let part = take (from + n * c .size - from) (drop from s) in getAll c (length part) part ≡ rs
+  unfolding area
+  used-back from room rs s e h whole p =
+      let size = put-all-length R rs e in
+      let there : length (putAll c rs) ≤ room * c .size = rw size (mul-le-mul-right (c .size) h) in
+      let enough : length rs ≤ length (putAll c rs) = rw size (le-mul-of-pos-right (length rs) some-size) in
+      rw (cut-pad from (room * c .size) (putAll c rs) s there whole (ap (λ (n : ℕ). n * c .size) p ∙ sym size))
+      (all-back (length (putAll c rs)) rs e enough)
+
+-- ---- a store whose shape is known
+
+module _ (s : List ℕ) {shape : Shape} {v : View} (e : shapeOf (view s) ≡ LaidOut shape) (h : view s ≡ some v) where
+  -- the shape is that of what the store means
+  shaped : shape ≡ record { counts = v .counts; text = length (v .text); filters = length (v .filters); eqs = length (v .eqs); notes = length (v .notes) }
+  unfolding shapeOf
+  shaped = let k : shapeOf (some v) ≡ LaidOut shape = rw h at e in cc
+
+  laid-out : layout v ≡ s
+  laid-out = view-layout s v h
+
+  fits : Fits v
+  fits = well-formed-fits v (view-well-formed s v h)
+
+  -- the parts
+  text-is : take (16 + shape .text - 16) (drop 16 s) ≡ v .text
+  unfolding textPart
+  text-is = cut-pad 16 (v .counts .bytes) (v .text) s (fits .text) (rw (counts-back v, laid-out) at (text-part v fits)) (ap (λ (x : Shape). x .text) shaped)
+
+  filters-are : {from : ℕ} → from ≡ filtersAt (shape .counts) → filterRows (take (from + shape .filters * filterSize - from) (drop from s)) ≡ v .filters
+  unfolding filterRows filterPart filterCodec
+  filters-are {from} p =
+      let begin : from ≡ filtersAt (v .counts) = p ∙ ap (λ (x : Shape). filtersAt (x .counts)) shaped in
+      used-back filter-reads (omega arith) from (v .counts .filters) (v .filters) s (fits .filter-texts) (fits .filters)
+      (rw (counts-back v, laid-out, ← begin) at (filter-part v fits)) (ap (λ (x : Shape). x .filters) shaped)
+
+  eqs-are : {from : ℕ} → from ≡ eqsAt (shape .counts) → eqRows (take (from + shape .eqs * eqSize - from) (drop from s)) ≡ v .eqs
+  unfolding eqRows eqPart numberedCodec
+  eqs-are {from} p =
+      let begin : from ≡ eqsAt (v .counts) = p ∙ ap (λ (x : Shape). eqsAt (x .counts)) shaped in
+      used-back eq-reads (omega arith) from (v .counts .eqs) (v .eqs) s (fits .eq-texts) (fits .eqs)
+      (rw (counts-back v, laid-out, ← begin) at (eq-part v fits)) (ap (λ (x : Shape). x .eqs) shaped)
+
+  -- what decides on the parts decides on what the store means
+  pub decides-on : {filters eqs : ℕ} {answer : Deciding} (c : Client) (w : Wish) → filters ≡ filtersAt (shape .counts) → eqs ≡ eqsAt (shape .counts)
+      → answer ≡ deciding c w (take (16 + shape .text - 16) (drop 16 s)) (take (filters + shape .filters * filterSize - filters) (drop filters s)) (take (eqs + shape .eqs * eqSize - eqs) (drop eqs s))
+      → answer ≡ decidingOn c w v
+  unfolding deciding decidingOn
+  decides-on c w p q r =
+      let f = filters-are p in
+      let g = eqs-are q in
+      r ∙ (λ i. decidingOf (firstFrom (λ t. some-row t (f i)) (λ t. some-row t (g i)) c w 0 (rulesOf (text-is i))))
+
+-- what the store means, and that the parts lie in it
+pub record Seen (s : List ℕ) (shape : Shape) : Type 0 where
+  pub means : View
+  pub is : view s ≡ some means
+  pub text : 16 + shape .text ≤ length s
+  pub filters : filtersAt (shape .counts) + shape .filters * filterSize ≤ length s
+  pub eqs : eqsAt (shape .counts) + shape .eqs * eqSize ≤ length s
+
+pub seen : (s : List ℕ) {shape : Shape} → shapeOf (view s) ≡ LaidOut shape → Seen s shape
+unfolding shapeOf filtersAt eqsAt storeLength
+seen s {shape} e = at (view s) refl
+  where
+    at : (o : Option View) → view s ≡ o → Seen s shape
+    at none q = let k : shapeOf none ≡ LaidOut shape = rw q at e in let z : _≡_ {A = ℕ} 0 1 = cc in absurd (omega arith)
+    at (some v) q =
+        let is = shaped s e q in
+        let f = fits s e q in
+        let size = rw (laid-out s e q) at (layout-length v f) in
+        record { means = v; is = q; text = rw is (omega (arith, size, f)); filters = rw is (omega (arith, size, f)); eqs = rw is (omega (arith, size, f)) }
+
+-- ---- the answer, by what is known
+
+-- "The first cause in the order listed gives the number"
+module _ (q : Question) (s : List ℕ) where
+  pub refuses-by : {n : ℕ} → questionCause q ≡ some n → ask q s ≡ refuses n 0
+  unfolding ask askView
+  refuses-by e = λ i. elim (e i) as (λ _. Reply) [ none ↦ decided q (view s) | some n ↦ refuses n 0 ]
+
+  module _ (e : questionCause q ≡ none) where
+    decided-by : {o : Option View} → view s ≡ o → ask q s ≡ decided q o
+    unfolding ask askView
+    decided-by h = λ i. elim (e i) as (λ _. Reply) [ none ↦ decided q (h i) | some n ↦ refuses n 0 ]
+
+    pub refuses-malformed : view s ≡ none → ask q s ≡ refuses 3 0
+    unfolding decided
+    refuses-malformed h = decided-by h
+
+    pub malformed-by : shapeOf (view s) ≡ Malformed → ask q s ≡ refuses 3 0
+    unfolding shapeOf
+    malformed-by h = at (view s) refl
+      where
+        at : (o : Option View) → view s ≡ o → ask q s ≡ refuses 3 0
+        at none k = refuses-malformed k
+        at (some v) k = let l : shapeOf (some v) ≡ Malformed = rw k at h in let z : _≡_ {A = ℕ} 0 1 = cc in absurd (omega arith)
+
+    -- of a store as laid out
+    pub keeps-by : {v : View} {code : ℕ} → view s ≡ some v → keeps q ≡ some code → ask q s ≡ decides (kept code)
+    unfolding decided decide orKept
+    keeps-by h k = decided-by h ∙ rw k
+
+    pub decides-by : {v : View} → view s ≡ some v → keeps q ≡ none
+        → ask q s ≡ decides (byRule q (firstFrom (λ p. some-row p (v .filters)) (λ p. some-row p (v .eqs)) (client q) (wish q) 0 (rulesOf (v .text))))
+    unfolding decided decide orKept
+    decides-by h k = decided-by h ∙ rw k
+
+-- what an agreeing rule gives, by its access and the superuser flag
+unfoldable pub allowed : Question → ℕ → Bool → Decision
+allowed (question.connect earlier c) n flag = connects n flag
+allowed (question.subscribe earlier c topic qos) n flag = subscribes n qos
+allowed (question.publish earlier c topic disconnect) n flag = publishes n
+
+unfoldable pub decidedBy : Question → Deciding → Decision
+decidedBy q NoRule = refusal q 0
+decidedBy q (ByRule n allow flag) = cond allow (allowed q n flag) (refusal q n)
+
+allows : (q : Question) (n : ℕ) (r : Meaning) → allowance q n r ≡ allowed q n (superuser r)
+unfolding allowance allowed
+allows (question.connect earlier c) n r = refl
+allows (question.subscribe earlier c topic qos) n r = refl
+allows (question.publish earlier c topic disconnect) n r = refl
+
+by-rule : (q : Question) (o : Option (ℕ × Meaning)) → byRule q o ≡ decidedBy q (decidingOf o)
+unfolding byRule decidedBy decidingOf
+by-rule q none = refl
+by-rule q (some f) = ap (λ (d : Decision). cond (f .1 .allow) d (refusal q (suc (f .0)))) (allows q (suc (f .0)) (f .1))
+
+-- of a store with a shape
+pub keeps-laid : {shape : Shape} {code : ℕ} (q : Question) (s : List ℕ) → questionCause q ≡ none → shapeOf (view s) ≡ LaidOut shape → keeps q ≡ some code
+    → ask q s ≡ decides (kept code)
+keeps-laid q s e laid k = keeps-by q s e (seen s laid .is) k
+
+-- what is known once `deciding_on` has answered
+pub record Asks (q : Question) (s : List ℕ) (shape : Shape) (answer : Deciding) : Type 0 where
+  pub cause : questionCause q ≡ none
+  pub laid : shapeOf (view s) ≡ LaidOut shape
+  pub new : keeps q ≡ none
+  pub told : (v : View) → view s ≡ some v → answer ≡ decidingOn (client q) (wish q) v
+
+module _ {q : Question} {s : List ℕ} {shape : Shape} {answer : Deciding} (a : Asks q s shape answer) where
+  decided-laid : {known : Deciding} → answer ≡ known → ask q s ≡ decides (decidedBy q known)
+  unfolding decidingOn
+  decided-laid d =
+      let v = seen s (a .laid) in
+      decides-by q s (a .cause) (v .is) (a .new) ∙ ap decides (by-rule q _ ∙ ap (decidedBy q) (sym (a .told (v .means) (v .is)) ∙ d))
+
+  pub none-laid : answer ≡ NoRule → ask q s ≡ decides (refusal q 0)
+  unfolding decidedBy
+  none-laid d = decided-laid d
+
+  pub allows-laid : {n : ℕ} {allow flag : Bool} → answer ≡ ByRule n allow flag → allow ≡ true → ask q s ≡ decides (allowed q n flag)
+  unfolding decidedBy
+  allows-laid d h = decided-laid d ∙ rw h
+
+  pub refuses-laid : {n : ℕ} {allow flag : Bool} → answer ≡ ByRule n allow flag → allow ≡ false → ask q s ≡ decides (refusal q n)
+  unfolding decidedBy
+  refuses-laid d h = decided-laid d ∙ rw h
+
+-- ---- number 1, then number 2
+
+module _ (long wrong : Bool) where
+  pub first-long : long ≡ true → first ((long, 1) ∷ (wrong, 2) ∷ []) ≡ some 1
+  unfolding first
+  first-long e = rw e
+
+  pub first-wrong : long ≡ false → wrong ≡ true → first ((long, 1) ∷ (wrong, 2) ∷ []) ≡ some 2
+  unfolding first
+  first-wrong e h = rw (e, h)
+
+  pub first-none : long ≡ false → wrong ≡ false → first ((long, 1) ∷ (wrong, 2) ∷ []) ≡ none
+  unfolding first
+  first-none e h = rw (e, h)
+
+-- each number has two tests
+pub either-first : (a b : Bool) → a ≡ true → (a || b) ≡ true
+either-first a b e = rw e
+
+pub either-second : (a b : Bool) → b ≡ true → (a || b) ≡ true
+either-second a b e = rw e (or-true a)
+
+pub neither : (a b : Bool) → a ≡ false → b ≡ false → (a || b) ≡ false
+neither a b e h = rw (e, h)
+
+-- number 1 doesn't look at the protocol
+pub client-told : {answer known : Bool} (c : Client)
+    → answer ≡ clientOver (record { id = c .id; name = c .name; password = c .password; address = c .address; protocol = none }) → answer ≡ known → clientOver c ≡ known
+unfolding clientOver
+client-told c e q = sym e ∙ q
+
+-- ---- earlier codes
+
+-- "Connect's 3 and 4 .. are returned as kept"
+pub connect-kept : (n : ℕ) → 3 ≤ n → n ≤ 4 → cond (eqb n 3 || eqb n 4) (some n) none ≡ some n
+connect-kept n h k = at (eqb n 3) refl
+  where
+    at : (b : Bool) → eqb n 3 ≡ b → cond (b || eqb n 4) (some n) none ≡ some n
+    at true e = refl
+    at false e = let is : n ≡ 4 = omega (arith, eqb-false n 3 e) in rw (eq-eqb n 4 is)
+
+pub connect-new : (n : ℕ) → n < 3 → cond (eqb n 3 || eqb n 4) (some n) none ≡ none
+connect-new n h = rw (ne-eqb n 3 (λ e. omega arith), ne-eqb n 4 (λ e. omega arith))
+
+-- "and the others' 2"
+pub code-kept : (n : ℕ) → n ≡ codeLimit → cond (eqb n codeLimit) (some n) none ≡ some n
+code-kept n e = rw (eq-eqb n codeLimit e)
+
+pub code-new : (n : ℕ) → (n ≡ codeLimit → ⊥) → cond (eqb n codeLimit) (some n) none ≡ none
+code-new n h = rw (ne-eqb n codeLimit h)

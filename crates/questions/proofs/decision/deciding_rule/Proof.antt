@@ -1,0 +1,197 @@
+-- `questions::decision::deciding_rule` meets its contract. The invariant of the loop over the lines: `at` is at most the text's length, `n` at
+-- most `at`, and the first rule that agrees, of the lines from `at` on, counted from `n`, is the first of all. The measure is what is left of
+-- the text. The invariant of the loop over a line's topics: one of the topics from `next` on, of `turns` at the most, agrees if and only if
+-- one of all does. The measure is `turns`. Assumes nothing.
+use Prim.Native.Nat.{_-_}
+use mathlib.Core.Path.{_≡_, refl, sym, ap, _∙_}
+use mathlib.Core.Logic.{⊎-elim}
+use native.Mathlib.Omega.{arith}
+use borrow.Author.Needs.{needs}
+use lib.ListN.{length}
+use Rattle.json.specs.Access.{firstItem}
+use Rattle.rule.specs.Places.{given}
+use Rattle.questions.specs.Parts.{protocolOf, someTopicFrom}
+use Rattle.questions.proofs.DecisionLaws.{Walks, here, none-decides, here-less, here-differs, here-passes, all-decides, topic-decides, eq-decides, filter-decides, some-end, some-none, some-by}
+use Rattle.questions.proofs.decision.deciding_rule.Statement.{statement}
+use Rattle.questions.proofs.decision.deciding_rule.Tie as tie
+
+abbrev Inv-loop : tie.InvT-loop
+Inv-loop rules filters eqs asked id name names password passwords address addresses protocol topic allow superuser n at line access flag array next₀ turns₀ next turns =
+    someTopicFrom topic turns line next ≡ someTopicFrom topic (length line) line (firstItem 0x5b 0x5d line array)
+
+abbrev μ-loop : tie.MeasureT-loop
+μ-loop rules filters eqs asked id name names password passwords address addresses protocol topic allow superuser n at line access flag array next₀ turns₀ next turns =
+    turns
+
+abbrev Inv-rules : tie.InvT-rules
+Inv-rules rules filters eqs asked id name names password passwords address addresses protocol topic allow₀ superuser₀ n₀ at₀ allow superuser n at =
+    Walks filters eqs (record { id = id; name = given name names; password = given password passwords; address = given address addresses; protocol = protocolOf protocol }) asked topic rules n at
+
+abbrev μ-rules : tie.MeasureT-rules
+μ-rules rules filters eqs asked id name names password passwords address addresses protocol topic allow₀ superuser₀ n₀ at₀ allow superuser n at =
+    length rules - at
+
+rules-holds : tie.Need-rules-holds Inv-loop μ-loop Inv-rules μ-rules
+rules-holds c = (omega arith, omega arith, refl)
+
+line-at-requires : tie.Need-line-at-requires Inv-loop μ-loop Inv-rules μ-rules
+line-at-requires c κs = search needs
+
+next-line-requires : tie.Need-next-line-requires Inv-loop μ-loop Inv-rules μ-rules
+next-line-requires c κs = search needs
+
+add-n : tie.Need-add-n Inv-loop μ-loop Inv-rules μ-rules
+add-n c = omega arith
+
+head-requires : tie.Need-head-requires Inv-loop μ-loop Inv-rules μ-rules
+head-requires c κs = search needs
+
+enum-told : tie.Need-enum-told Inv-loop μ-loop Inv-rules μ-rules
+enum-told c = search needs
+
+rules-less : tie.Need-rules-less Inv-loop μ-loop Inv-rules μ-rules
+rules-less c =
+    let l = c .before .before .before in
+    here-less (here (l .before .before .before .rules .inv) (l .before .before .if1 .left) (l .before .line-at .ensures) (l .next-line .ensures))
+
+rules-again : tie.Need-rules-again Inv-loop μ-loop Inv-rules μ-rules
+rules-again c =
+    let l = c .before .before .before in
+    here-differs (here (l .before .before .before .rules .inv) (l .before .before .if1 .left) (l .before .line-at .ensures) (l .next-line .ensures))
+    (sym (c .before .before .head .ensures) ∙ c .enum-told .given .1)
+
+enum-known-access : tie.Need-enum-known-access Inv-loop μ-loop Inv-rules μ-rules
+enum-known-access c = search needs
+
+enum-told-2 : tie.Need-enum-told-2 Inv-loop μ-loop Inv-rules μ-rules
+enum-told-2 c = search needs
+
+enum-known-topics : tie.Need-enum-known-topics Inv-loop μ-loop Inv-rules μ-rules
+enum-known-topics c = search needs
+
+first-element-requires : tie.Need-first-element-requires Inv-loop μ-loop Inv-rules μ-rules
+first-element-requires c κs = search needs
+
+loop-holds : tie.Need-loop-holds Inv-loop μ-loop Inv-rules μ-rules
+loop-holds c = ap (someTopicFrom _ _ _) (c .first-element .ensures)
+
+enum-told-3 : tie.Need-enum-told-3 Inv-loop μ-loop Inv-rules μ-rules
+enum-told-3 c = search needs
+
+loop-less : tie.Need-loop-less Inv-loop μ-loop Inv-rules μ-rules
+loop-less c = omega arith
+
+loop-again : tie.Need-loop-again Inv-loop μ-loop Inv-rules μ-rules
+loop-again c =
+    let l = c .before .before .before in
+    some-none _ 0 _ _ (omega arith) ∙ (sym (some-end _ _ _ (c .enum-told3 .given .1)) ∙ l .loop .inv)
+
+enum-known-next : tie.Need-enum-known-next Inv-loop μ-loop Inv-rules μ-rules
+enum-known-next c = search needs
+
+topic-agrees-requires : tie.Need-topic-agrees-requires Inv-loop μ-loop Inv-rules μ-rules
+topic-agrees-requires c κs = search needs
+
+next-item-requires : tie.Need-next-item-requires Inv-loop μ-loop Inv-rules μ-rules
+next-item-requires c κs = search needs
+
+sub-turns : tie.Need-sub-turns Inv-loop μ-loop Inv-rules μ-rules
+sub-turns c = omega arith
+
+loop-less-2 : tie.Need-loop-less-2 Inv-loop μ-loop Inv-rules μ-rules
+loop-less-2 c = omega arith
+
+loop-again-2 : tie.Need-loop-again-2 Inv-loop μ-loop Inv-rules μ-rules
+loop-again-2 c =
+    let i = c .before .before .before .before .before .before in
+    let agrees = sym (c .before .before .topic-agrees .ensures) ∙ c .before .if2 .left in
+    ap (someTopicFrom _ _ _) (c .next-item .ensures)
+    ∙ (sym (some-by _ (i .before .loop .turns) _ (i .loop-test .taken) (c .before .before .before .before .next .given .1) agrees) ∙ i .before .loop .inv)
+
+sub-eq-row-agrees : tie.Need-sub-eq-row-agrees Inv-loop μ-loop Inv-rules μ-rules
+sub-eq-row-agrees c = search needs
+
+eq-row-agrees-requires : tie.Need-eq-row-agrees-requires Inv-loop μ-loop Inv-rules μ-rules
+eq-row-agrees-requires c κs = search needs
+
+sub-filter-row-agrees : tie.Need-sub-filter-row-agrees Inv-loop μ-loop Inv-rules μ-rules
+sub-filter-row-agrees c = search needs
+
+filter-row-agrees-requires : tie.Need-filter-row-agrees-requires Inv-loop μ-loop Inv-rules μ-rules
+filter-row-agrees-requires c κs = search needs
+
+rules-less-2 : tie.Need-rules-less-2 Inv-loop μ-loop Inv-rules μ-rules
+rules-less-2 c =
+    let l = c .before .before .before .before .before .before .before .before .before .before .before .before .before .before in
+    here-less (here (l .before .before .before .rules .inv) (l .before .before .if1 .left) (l .before .line-at .ensures) (l .next-line .ensures))
+
+rules-again-2 : tie.Need-rules-again-2 Inv-loop μ-loop Inv-rules μ-rules
+rules-again-2 c =
+    let e = c .before .before .before .before .before in
+    let a = e .before .before .before .before .before .before in
+    let l = a .before .before .before in
+    let passed = sym (e .loop .inv) ∙ some-none _ _ _ _ (c .before .before .before .before .loop-test .left) in
+    here-passes (here (l .before .before .before .rules .inv) (l .before .before .if1 .left) (l .before .line-at .ensures) (l .next-line .ensures))
+    (sym (a .before .before .head .ensures) ∙ a .access .given .1) (e .before .before .before .topics .given .1) passed
+    (sym (c .before .before .before .eq-row-agrees .ensures) ∙ c .before .before .if3 .left) (sym (c .before .filter-row-agrees .ensures) ∙ c .if4 .left)
+
+returns : tie.Need-returns Inv-loop μ-loop Inv-rules μ-rules
+returns c =
+    let r = c .before .before .rules in
+    ⊎-elim (λ w. none-decides _ _ _ _ _ _ (r .n) (r .at) (r .inv) (w .0 .taken))
+    (⊎-elim (λ w. absurd (omega (arith, w .13)))
+    (⊎-elim (λ w. absurd (omega (arith, w .22)))
+    (⊎-elim (λ w. absurd (omega (arith, w .19))) (λ w. absurd (omega (arith, w .21))))))
+    (c .before .if1 .came)
+
+returns-2 : tie.Need-returns-2 Inv-loop μ-loop Inv-rules μ-rules
+returns-2 c =
+    let r = c .before .before .rules in
+    ⊎-elim (λ w. absurd (c .if5 .left (w .5)))
+    (⊎-elim (λ w. all-decides (here (r .inv) (w .0 .left) (w .1 .ensures) (w .2 .ensures)) (sym (w .3 .ensures) ∙ w .5 .given .1) (w .9) (w .10) (w .13) (w .8 .given .1))
+    (⊎-elim
+    (λ w. topic-decides (here (r .inv) (w .0 .left) (w .1 .ensures) (w .2 .ensures)) (sym (w .3 .ensures) ∙ w .5 .given .1) (w .18) (w .19) (w .22) (w .8 .given .1)
+    (sym (w .11 .inv) ∙ some-by _ (w .11 .turns) _ (w .12 .taken) (w .14 .given .1) (sym (w .16 .ensures) ∙ w .17 .taken)))
+    (⊎-elim
+    (λ w. eq-decides (here (r .inv) (w .0 .left) (w .1 .ensures) (w .2 .ensures)) (sym (w .3 .ensures) ∙ w .5 .given .1) (w .15) (w .16) (w .19) (w .8 .given .1) (sym (w .13 .ensures) ∙ w .14 .taken))
+    (λ w. filter-decides (here (r .inv) (w .0 .left) (w .1 .ensures) (w .2 .ensures)) (sym (w .3 .ensures) ∙ w .5 .given .1) (w .17) (w .18) (w .21) (w .8 .given .1) (sym (w .15 .ensures) ∙ w .16 .taken)))))
+    (c .before .if1 .came)
+
+pub deciding-rule-spec : {M : Type 1} → statement M
+deciding-rule-spec =
+    tie.close
+    (tie.spec
+    Inv-loop
+    μ-loop
+    Inv-rules
+    μ-rules
+    rules-holds
+    line-at-requires
+    next-line-requires
+    add-n
+    head-requires
+    enum-told
+    rules-less
+    rules-again
+    enum-known-access
+    enum-told-2
+    enum-known-topics
+    first-element-requires
+    loop-holds
+    enum-told-3
+    loop-less
+    loop-again
+    enum-known-next
+    topic-agrees-requires
+    next-item-requires
+    sub-turns
+    loop-less-2
+    loop-again-2
+    sub-eq-row-agrees
+    eq-row-agrees-requires
+    sub-filter-row-agrees
+    filter-row-agrees-requires
+    rules-less-2
+    rules-again-2
+    returns
+    returns-2)

@@ -1,0 +1,4 @@
+pub mod Question
+pub mod Decision
+pub mod Answers
+pub mod Parts

@@ -1,0 +1,263 @@
+// The decision on a rule text and used rows (document 01, Plugin decisions). Total: a line that is no rule agrees with nothing, and rows are
+// the whole rows of their part.
+use crate::Asked;
+use crate::Deciding;
+use crate::Head;
+use json::Copied;
+use json::Place;
+use json::access::first_element;
+use json::access::next_item;
+use json::lines::line_at;
+use json::lines::next_line;
+use json::strings::decode;
+use json::strings::string_is;
+use rule::Control;
+use rule::Given;
+use rule::Identity;
+use rule::Protocol;
+use rule::Rule;
+use rule::RuleRead;
+use rule::TEXT;
+use rule::Topic;
+use rule::Topics;
+use rule::agreement::identity;
+use rule::read::read_rule;
+use rule::topic_list::topic_at;
+use store::Counts;
+use store::rows::filter_owner;
+use store::rows::filter_text;
+use store::rows::numbered_text;
+use table::number_at;
+use topic::tree_match;
+ghost use mathlib.Core.Path.{_≡_};
+ghost use Rattle.rule.specs.Places.{given};
+ghost use Rattle.table.specs.Table.{«some-row»};
+ghost use Rattle.questions.specs.Decision as decision;
+ghost use Rattle.questions.specs.Parts as spec;
+
+// Does a rule's control cover what is asked?
+fn covers(control: Control, asked: Asked) -> bool
+    ensures { λ r. ⌜ r ≡ spec.coversAsked control asked ⌝ }
+{
+    match control {
+        Control::All => true,
+        Control::Connect => match asked {
+            Asked::Connect => true,
+            Asked::Subscribe => false,
+            Asked::Publish => false,
+        },
+        Control::Publish => match asked {
+            Asked::Connect => false,
+            Asked::Subscribe => false,
+            Asked::Publish => true,
+        },
+        Control::Subscribe => match asked {
+            Asked::Connect => false,
+            Asked::Subscribe => true,
+            Asked::Publish => false,
+        },
+        Control::Pubsub => match asked {
+            Asked::Connect => false,
+            Asked::Subscribe => true,
+            Asked::Publish => true,
+        },
+    }
+}
+
+// "Connect skips topics."
+fn asked_topics(asked: Asked, topics: Topics) -> Topics
+    ensures { λ r. ⌜ r ≡ spec.topicsFor asked topics ⌝ }
+{
+    match asked {
+        Asked::Connect => Topics::All,
+        Asked::Subscribe => topics,
+        Asked::Publish => topics,
+    }
+}
+
+// A rule's line before its topics.
+fn head(
+    line: &[u8],
+    asked: Asked,
+    id: &[u8],
+    name: Given,
+    names: &[u8],
+    password: Given,
+    passwords: &[u8],
+    address: Given,
+    addresses: &[u8],
+    protocol: Protocol,
+) -> Head
+    ensures { λ r. ⌜ r ≡ spec.headAt (record { id = now (id .entry); name = given name (now (names .entry)); password = given password (now (passwords .entry)); address = given address (now (addresses .entry)); protocol = spec.protocolOf protocol }) asked (now (line .entry)) ⌝ }
+{
+    let RuleRead::Rule(rule) = read_rule(line) else {
+        return Head::Differs;
+    };
+    let control = rule.control;
+    if !covers(control, asked) {
+        return Head::Differs;
+    }
+    let users = rule.users;
+    match identity(
+        line,
+        users,
+        id,
+        name,
+        names,
+        password,
+        passwords,
+        address,
+        addresses,
+        protocol,
+    ) {
+        Identity::Differs => Head::Differs,
+        Identity::Agrees(superuser) => {
+            let topics = rule.topics;
+            Head::Agrees(rule.allow, superuser, asked_topics(asked, topics))
+        }
+    }
+}
+
+// Does the filter at this place of the line T-match the topic?
+fn filter_matches(line: &[u8], at: usize, topic: &[u8]) -> bool
+    ensures { λ r. ⌜ r ≡ spec.filterMatchesAt (now (topic .entry)) (now (line .entry)) at ⌝ }
+{
+    let mut filter = [0u8; TEXT];
+    match decode(line, at, &mut filter) {
+        Copied::Length(n) => tree_match(&filter[..n], topic),
+        Copied::TooLong => false,
+        Copied::NoText => false,
+    }
+}
+
+// Does the topic at this place of the rule's array agree by itself? A template doesn't.
+fn topic_agrees(line: &[u8], at: usize, topic: &[u8]) -> bool
+    ensures { λ r. ⌜ r ≡ spec.topicAgreesAt (now (topic .entry)) (now (line .entry)) at ⌝ }
+{
+    match topic_at(line, at) {
+        Topic::Filter(p) => filter_matches(line, p, topic),
+        Topic::Eq(p) => string_is(line, p, topic),
+        _ => false,
+    }
+}
+
+// Is there an eq row of the rule, counted from 0, that is the topic?
+fn eq_row_agrees(eqs: &[u8], rule: usize, topic: &[u8]) -> bool
+    ensures { λ r. ⌜ r ≡ «some-row» (decision.eqAgrees rule (now (topic .entry))) (spec.eqRows (now (eqs .entry))) ⌝ }
+{
+    let mut at = 0;
+    while Counts::EQ <= eqs.len() - at {
+        let next = at + Counts::EQ;
+        let row = &eqs[at..next];
+        if number_at(row, 0) == rule {
+            if text::same(numbered_text(row), topic) {
+                return true;
+            }
+        }
+        at = next;
+    }
+    false
+}
+
+// Is there a filter row of the rule and the client that T-matches the topic?
+fn filter_row_agrees(filters: &[u8], rule: usize, id: &[u8], topic: &[u8]) -> bool
+    ensures { λ r. ⌜ r ≡ «some-row» (decision.filterAgrees rule (now (id .entry)) (now (topic .entry))) (spec.filterRows (now (filters .entry))) ⌝ }
+{
+    let mut at = 0;
+    while Counts::FILTER <= filters.len() - at {
+        let next = at + Counts::FILTER;
+        let row = &filters[at..next];
+        if number_at(row, 0) == rule {
+            if text::same(filter_owner(row), id) {
+                if tree_match(filter_text(row), topic) {
+                    return true;
+                }
+            }
+        }
+        at = next;
+    }
+    false
+}
+
+// "The first rule whose control, users and topics all agree decides."
+pub fn deciding_rule(
+    rules: &[u8],
+    filters: &[u8],
+    eqs: &[u8],
+    asked: Asked,
+    id: &[u8],
+    name: Given,
+    names: &[u8],
+    password: Given,
+    passwords: &[u8],
+    address: Given,
+    addresses: &[u8],
+    protocol: Protocol,
+    topic: &[u8],
+) -> Deciding
+    ensures { λ r. ⌜ r ≡ spec.deciding (record { id = now (id .entry); name = given name (now (names .entry)); password = given password (now (passwords .entry)); address = given address (now (addresses .entry)); protocol = spec.protocolOf protocol }) (spec.wishOf asked (now (topic .entry))) (now (rules .entry)) (now (filters .entry)) (now (eqs .entry)) ⌝ }
+{
+    let mut allow = false;
+    let mut superuser = false;
+    let mut n = 0;
+    let mut at = 0;
+    let decided = 'rules: loop {
+        if rules.len() <= at {
+            break 'rules 0;
+        }
+        let line = line_at(rules, at);
+        at = next_line(rules, at);
+        n += 1;
+        match head(
+            line,
+            asked,
+            id,
+            name,
+            names,
+            password,
+            passwords,
+            address,
+            addresses,
+            protocol,
+        ) {
+            Head::Differs => {}
+            Head::Agrees(access, flag, topics) => {
+                allow = access;
+                superuser = flag;
+                match topics {
+                    Topics::All => {
+                        break 'rules n;
+                    }
+                    Topics::Listed(array) => {
+                        let mut next = first_element(line, array);
+                        let mut turns = line.len();
+                        while turns > 0 {
+                            match next {
+                                Place::Nowhere => {
+                                    turns = 0;
+                                }
+                                Place::At(p) => {
+                                    if topic_agrees(line, p, topic) {
+                                        break 'rules n;
+                                    }
+                                    next = next_item(line, p);
+                                    turns -= 1;
+                                }
+                            }
+                        }
+                        if eq_row_agrees(eqs, n - 1, topic) {
+                            break 'rules n;
+                        }
+                        if filter_row_agrees(filters, n - 1, id, topic) {
+                            break 'rules n;
+                        }
+                    }
+                }
+            }
+        }
+    };
+    if decided == 0 {
+        return Deciding::NoRule;
+    }
+    Deciding::Rule(decided, allow, superuser)
+}
