@@ -10,3 +10,5 @@ pub mod ValueLaws
 pub mod AccessSteps
 pub mod AccessLaws
 pub mod DocumentLaws
+pub mod PlainLaws
+pub mod ElementLaws

@@ -29,7 +29,7 @@ unfoldable pub ahead : List ℕ → ℕ → Option Decoded → Option Decoded
 ahead t n none = none
 ahead t n (some d) = some (record { text = t ++ d .text; size = n + d .size })
 
-ahead-nothing : (o : Option Decoded) → o ≡ ahead [] 0 o
+pub ahead-nothing : (o : Option Decoded) → o ≡ ahead [] 0 o
 unfolding ahead
 ahead-nothing none = refl
 ahead-nothing (some d) = ap (λ (k : ℕ). some (record { text = d .text; size = k })) (sym (zero-add (d .size)))
@@ -38,6 +38,15 @@ grown-ahead : (t : List ℕ) (n : ℕ) (o : Option Decoded) → grown t (ahead [
 unfolding ahead grown
 grown-ahead t n none = refl
 grown-ahead t n (some d) = ap (λ (k : ℕ). some (record { text = t ++ d .text; size = k })) (omega arith)
+
+-- two texts before a string
+pub ahead-ahead : (t : List ℕ) (n : ℕ) (u : List ℕ) (m : ℕ) (o : Option Decoded) → ahead t n (ahead u m o) ≡ ahead (t ++ u) (n + m) o
+unfolding ahead
+ahead-ahead t n u m none = refl
+ahead-ahead t n u m (some d) =
+    let texts = sym (append-assoc t u (d .text)) in
+    let sizes = sym (add-assoc n m (d .size)) in
+    λ i. some (record { text = texts i; size = sizes i })
 
 -- skipping is dropping
 skipped : (k : ℕ) (s : List ℕ) → stringFrom k s ≡ ahead [] k (stringFrom zero (drop k s))

@@ -3,3 +3,4 @@ pub mod Utf8
 pub mod Strings
 pub mod Json
 pub mod Access
+pub mod Plain

@@ -10,6 +10,7 @@ use crate::Scanned;
 use crate::Separator;
 use crate::Step;
 use crate::Truth;
+use crate::strings::plain_end;
 use crate::strings::scan_string;
 use crate::strings::string_is;
 use crate::values::DEPTH;
@@ -25,6 +26,7 @@ use crate::values::value;
 ghost use mathlib.Core.Path.{_≡_};
 ghost use lib.ListN.{length};
 ghost use Rattle.json.specs.Json as json;
+ghost use Rattle.json.specs.Plain as plain;
 ghost use Rattle.json.specs.Access as spec;
 
 // The kind of value that begins at this place.
@@ -189,6 +191,20 @@ pub fn truth(line: &[u8], at: usize) -> Truth
         Literal::Null => Truth::Unknown,
         Literal::Bad => Truth::Unknown,
     }
+}
+
+// The closing quote of the string at this place, if all its bytes are plain: it is its own decoded text, and callers read it in place.
+pub fn plain_text(line: &[u8], at: usize) -> Place
+    ensures { λ r. ⌜ r ≡ plain.plainText (now (line .entry)) at ⌝ }
+{
+    if !is_at(line, at, b'"') {
+        return Place::Nowhere;
+    }
+    let end = plain_end(line, at + 1);
+    if is_at(line, end, b'"') {
+        return Place::At(end);
+    }
+    Place::Nowhere
 }
 
 // The length of the string at this place, decoded.

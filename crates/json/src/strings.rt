@@ -1,7 +1,9 @@
 // The strings of a line, read character by character: nothing is copied but by `decode` (RFC 8259, section 7).
 use crate::Copied;
 use crate::Piece;
+use crate::Place;
 use crate::Scanned;
+use crate::access::plain_text;
 use crate::utf8::in_range;
 use crate::utf8::sequence;
 use crate::utf8::utf8_size;
@@ -11,6 +13,7 @@ ghost use lib.ListN.{length, take, drop, getD};
 ghost use Rattle.text.specs.Text as txt;
 ghost use Rattle.json.specs.Utf8 as utf;
 ghost use Rattle.json.specs.Strings as spec;
+ghost use Rattle.json.specs.Plain as plain;
 ghost use Rattle.json.specs.Access as access;
 
 // No four hexadecimal digits.
@@ -180,6 +183,20 @@ fn is_plain(b: u8) -> bool
     in_range(0x20, 0x7f, b)
 }
 
+// The place of the first byte that isn't plain, from `at` on.
+pub fn plain_end(line: &[u8], at: usize) -> usize
+    ensures { λ r. ⌜ r ≡ plain.skipPlains (now (line .entry)) at ⌝ }
+{
+    let mut i = at;
+    while i < line.len() {
+        if !is_plain(line[i]) {
+            return i;
+        }
+        i += 1;
+    }
+    i
+}
+
 // The string whose opening quote stands at `at`: the place behind it and the length of its decoded text.
 pub fn scan_string(line: &[u8], at: usize) -> Scanned
     ensures { λ r. ⌜ r ≡ access.scanned at (spec.stringAt (now (line .entry)) at) ⌝ }
@@ -268,8 +285,18 @@ fn begins_with(text: &[u8], c: u32) -> bool
     text::begins(text, &bytes[..size])
 }
 
-// Is the string whose opening quote stands at `at`, decoded, this text?
+// Is the string whose opening quote stands at `at`, decoded, this text? Most are plain and are compared as they stand.
 pub fn string_is(line: &[u8], at: usize, wanted: &[u8]) -> bool
+    ensures { λ r. ⌜ r ≡ access.stringIs (now (line .entry)) at (now (wanted .entry)) ⌝ }
+{
+    if let Place::At(end) = plain_text(line, at) {
+        return text::same(&line[at + 1..end], wanted);
+    }
+    decoded_is(line, at, wanted)
+}
+
+// The same, piece by piece.
+fn decoded_is(line: &[u8], at: usize, wanted: &[u8]) -> bool
     ensures { λ r. ⌜ r ≡ access.stringIs (now (line .entry)) at (now (wanted .entry)) ⌝ }
 {
     if line.len() <= at {

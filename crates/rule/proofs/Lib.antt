@@ -10,3 +10,4 @@ pub mod FillLaws
 pub mod IdentityLaws
 pub mod StandsLaws
 pub mod Marked
+pub mod OnePassLaws

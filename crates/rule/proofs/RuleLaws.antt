@@ -289,7 +289,7 @@ closed line at e q = isnt (eqb (byteAt line at) 0x5b) (λ h. true≢false (sym (
     opens : isArray (kindOf 0x5b) ≡ true
     opens = unfold kindOf between isArray in refl
 
-topics-here : (line : List ℕ) (v : Value) → Stands line (some v) → topicsHere line (v .at) ≡ isSome (topicsOf (some v))
+pub topics-here : (line : List ℕ) (v : Value) → Stands line (some v) → topicsHere line (v .at) ≡ isSome (topicsOf (some v))
 unfolding topicsHere topicsOf asArray isSome bind areTopics kindIs isArray longest
 topics-here line v h = by (v .value) (h .1) (h .2)
   where
@@ -367,7 +367,7 @@ behind-is line allow users control topics hu hc ht =
 
 -- the rule that the parts' places give
 module _ (line : List ℕ) (access users control topics : Option Value) where
-  unfoldable placed : Parts
+  unfoldable pub placed : Parts
   placed = record { access = placeOf access; users = placeOf users; control = placeOf control; topics = placeOf topics }
 
   access-is : Stands line access → Stands line users → Stands line control → Stands line topics
@@ -441,7 +441,7 @@ no-array line e q = here-by line (sym (parts-from line nowhere)) refl refl
     nowhere : firstItem 0x5b 0x5d line (skipBlanks line 0) ≡ Nowhere
     nowhere = ap (λ (b : Bool). cond b (cond (isAt line p 0x5d) Nowhere (At p)) Nowhere) (closed line (skipBlanks line 0) e q)
 
-parts-placed : (line : List ℕ) (low high : ℕ) (es : Elements) → firstItem 0x5b 0x5d line (skipBlanks line 0) ≡ elementPlace es → ElementsIn line low high es
+pub parts-placed : (line : List ℕ) (low high : ℕ) (es : Elements) → firstItem 0x5b 0x5d line (skipBlanks line 0) ≡ elementPlace es → ElementsIn line low high es
     → partsHere line ≡ placed line (nth 0 es) (nth 1 es) (nth 2 es) (nth 3 es)
 unfolding partsHere placed
 parts-placed line low high es e h =

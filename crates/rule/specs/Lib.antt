@@ -6,3 +6,4 @@ pub mod Fill
 pub mod RuleText
 pub mod Places
 pub mod Agreement
+pub mod OnePass

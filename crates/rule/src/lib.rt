@@ -2,6 +2,7 @@
 pub mod agreement;
 pub mod fill;
 pub mod listed;
+mod one_pass;
 pub mod read;
 pub mod topic_list;
 pub mod words;

@@ -15,7 +15,9 @@ use crate::Users;
 use crate::UsersRead;
 use crate::Word;
 use crate::listed::users_at;
+use crate::one_pass::in_one_pass;
 use crate::topic_list::topics_at;
+use crate::words::control_of;
 use crate::words::word_at;
 use json::Checked;
 use json::Found;
@@ -73,22 +75,13 @@ fn too_many_topics(line: &[u8], topics: Place) -> bool
     }
 }
 
-// "Control: absent, `all`, `connect`, `publish`, `subscribe`, `pubsub`."
+// The control at a place, if there is one.
 fn control_at(line: &[u8], at: Place) -> ControlRead
     ensures { λ r. ⌜ r ≡ spec.controlHere (now (line .entry)) at ⌝ }
 {
-    let Place::At(p) = at else {
-        return ControlRead::Is(Control::All);
-    };
-    match word_at(line, p) {
-        Word::All => ControlRead::Is(Control::All),
-        Word::Connect => ControlRead::Is(Control::Connect),
-        Word::Publish => ControlRead::Is(Control::Publish),
-        Word::Subscribe => ControlRead::Is(Control::Subscribe),
-        Word::Pubsub => ControlRead::Is(Control::Pubsub),
-        Word::Allow => ControlRead::Bad,
-        Word::Deny => ControlRead::Bad,
-        Word::Other => ControlRead::Bad,
+    match at {
+        Place::At(p) => control_of(word_at(line, p)),
+        Place::Nowhere => ControlRead::Is(Control::All),
     }
 }
 
@@ -155,6 +148,10 @@ pub fn read_rule(line: &[u8]) -> RuleRead
 {
     if LINE < line.len() {
         return RuleRead::Refused(Refusal::TooLong);
+    }
+    // Most lines are rules that one pass reads.
+    if let RuleRead::Rule(rule) = in_one_pass(line) {
+        return RuleRead::Rule(rule);
     }
     match check(line) {
         Checked::Invalid => RuleRead::Refused(Refusal::NotJson),

@@ -1,4 +1,6 @@
 // The words of a rule, in any case of their ASCII letters.
+use crate::Control;
+use crate::ControlRead;
 use crate::Word;
 use json::Copied;
 ghost use mathlib.Core.Path.{_≡_};
@@ -60,6 +62,22 @@ pub fn word_of(text: &[u8]) -> Word
         return Word::Pubsub;
     }
     Word::Other
+}
+
+// "Control: absent, `all`, `connect`, `publish`, `subscribe`, `pubsub`."
+pub fn control_of(word: Word) -> ControlRead
+    ensures { λ r. ⌜ r ≡ spec.controlOfWord word ⌝ }
+{
+    match word {
+        Word::All => ControlRead::Is(Control::All),
+        Word::Connect => ControlRead::Is(Control::Connect),
+        Word::Publish => ControlRead::Is(Control::Publish),
+        Word::Subscribe => ControlRead::Is(Control::Subscribe),
+        Word::Pubsub => ControlRead::Is(Control::Pubsub),
+        Word::Allow => ControlRead::Bad,
+        Word::Deny => ControlRead::Bad,
+        Word::Other => ControlRead::Bad,
+    }
 }
 
 // The word that the string at this place is, decoded. No word is longer than nine bytes, so no more is decoded.

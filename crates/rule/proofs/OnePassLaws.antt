@@ -1,0 +1,255 @@
+-- Laws of the one pass: what each of its steps reads. Assumes nothing.
+use Prim.Native.Nat.{ℕ, suc, _+_, _-_, _≤_, _<_, max}
+use native.Mathlib.Omega.{arith}
+use mathlib.Core.Path.{_≡_, refl, sym, ap, subst, _∙_}
+use mathlib.Core.Bool.{Bool, true, false, _||_, cond, true≢false}
+use mathlib.Core.List.{List, [], _∷_}
+use mathlib.Core.Option.{Option, none, some, bind, Option·map}
+use lib.Dec.{leb}
+use borrow.Author.Tests.{le-ltb, leb-true, leb-false}
+use lib.ListN.{length, take, drop, length-take}
+use Rattle.topic.specs.Topic.{validFilter}
+use Rattle.json.specs.Json.{Json, text, array, Elements, no-element, element, Read, isAt, skipBlanks, separatorAt, valueAt, depthLimit, longest, longestElement}
+use Rattle.json.specs.Access.{count, countOf, checked, valueHere}
+use Rattle.json.specs.declared.Separator.the-variants.{Close, Comma}
+use Rattle.json.specs.declared.Place.{Place}
+use Rattle.json.specs.declared.Place.the-variants.{At, Nowhere}
+use Rattle.rule.specs.declared.Word.{Word}
+use Rattle.rule.specs.declared.Word.the-variants.{Other}
+use Rattle.rule.specs.declared.Parts.{Parts}
+use Rattle.rule.specs.declared.Control.{Control}
+use Rattle.rule.specs.declared.Control.the-variants.{All}
+use Rattle.rule.specs.declared.ControlRead.{ControlRead}
+use Rattle.rule.specs.declared.ControlRead.the-variants.{Is as ControlIs, Bad as BadControl}
+use Rattle.rule.specs.declared.Users.{Users}
+use Rattle.rule.specs.declared.UsersRead.{UsersRead}
+use Rattle.rule.specs.declared.UsersRead.the-variants.{Users as UsersAre}
+use Rattle.rule.specs.declared.Topics.the-variants.{All as AllTopics, Listed}
+use Rattle.rule.specs.declared.Rule.{Rule}
+use Rattle.rule.specs.declared.RuleRead.{RuleRead}
+use Rattle.rule.specs.declared.RuleRead.the-variants.{Rule as RuleIs, Refused}
+use Rattle.json.proofs.ValueLaws.{value-deeper, elementsFrom}
+use Rattle.json.proofs.AccessLaws.{count-is, ArrayIs, array-is}
+use Rattle.json.proofs.PlainLaws.{Plain, plain-value}
+use Rattle.json.proofs.ElementLaws as items
+use Rattle.json.proofs.ElementLaws.{line-read}
+use Rattle.rule.specs.Limits.{textLimit, topicsLimit}
+use Rattle.rule.specs.Rule as spec
+use Rattle.rule.specs.Rule.{Value, nth, isTemplate, asText, asArray, asObject, topicOf, topicsIn, topicsOf}
+use Rattle.rule.specs.Places.{valueOf, topicAnswer, isTopic, overTopics, tooMany, topicsHere, placeOf, wordOf, controlOfWord, controlHere, usersOfPlace, withTopics, withControl, withUsers, ruleBehind, withAccess, accessAt}
+use Rattle.rule.specs.OnePass.{WherePlace, TopicTo, TopicsTo, Tail, WhereRule, FromTopics, FromControl, FromUsers, IsRule}
+use Rattle.rule.proofs.RuleLaws.{isSome, topics-here, placed, parts-placed, read-valid}
+use Rattle.rule.proofs.WordLaws.{word-long, word-here}
+use Rattle.rule.proofs.ReadLaws.{topics-by, here-by}
+
+-- ---- values
+
+-- what reads inside the line's array reads by itself
+pub value-there : (depth : ℕ) (line : List ℕ) (at : ℕ) {v : Json} {end : ℕ} → depth ≤ depthLimit → valueAt depth line at ≡ some (record { value = v; next = end })
+    → valueOf line at ≡ some (record { at = at; value = v })
+unfolding valueOf bind
+value-there depth line at h e = ap (λ (o : Option (Read Json)). bind o (λ r. some (record { at = at; value = r .value }))) (value-deeper depth depthLimit line at h e)
+
+-- ---- topics
+
+pub plain-topic : (line : List ℕ) (at : ℕ) {end : ℕ} → Plain line at end → end - (at + 1) ≤ textLimit
+    → (isTemplate (take (end - (at + 1)) (drop (at + 1) line)) || validFilter (take (end - (at + 1)) (drop (at + 1) line))) ≡ true
+    → TopicTo line at (end + 1)
+unfolding topicOf asObject asText bind longest
+plain-topic line at {end} p h e =
+    record {
+      value = text t;
+      topic = record { eq = false; text = record { at = at; text = t } };
+      reads = plain-value 6 line at p;
+      short = omega (arith, length-take (end - (at + 1)) (drop (at + 1) line));
+      is = ap (λ (b : Bool). cond b (some (record { eq = false; text = record { at = at; text = t } })) none) e;
+    }
+  where
+    t : List ℕ
+    t = take (end - (at + 1)) (drop (at + 1) line)
+
+pub value-topic : (line : List ℕ) (at : ℕ) {v : Json} {end : ℕ} → valueAt 6 line at ≡ some (record { value = v; next = end }) → longest v ≤ textLimit
+    → isTopic (topicAnswer (bind (valueOf line at) topicOf)) ≡ true → TopicTo line at end
+unfolding bind
+value-topic line at {v} {end} e h g = by (topicOf (record { at = at; value = v })) refl (ap (λ (o : Option Value). isTopic (topicAnswer (bind o topicOf))) (sym (value-there 6 line at (omega arith) e)) ∙ g)
+  where
+    by : (o : Option spec.Topic) → topicOf (record { at = at; value = v }) ≡ o → isTopic (topicAnswer o) ≡ true → TopicTo line at end
+    by none q k = absurd (true≢false (sym k ∙ (unfold topicAnswer isTopic in refl)))
+    by (some t) q k = record { value = v; topic = t; reads = e; short = h; is = q }
+
+-- ---- an array of topics
+
+-- where a place is answered
+pub answered : {place : Place} {end : ℕ} (holds : ℕ → Type 0) → place ≡ At end → WherePlace place holds → holds end
+answered holds e h = subst (λ (p : Place). WherePlace p holds) e h
+
+-- topics from a place on, at most so many, and behind them the closing bracket
+pub record TopicsFrom (line : List ℕ) (at room end : ℕ) : Type 0 where
+  pub elements : Elements
+  pub topics : List spec.Topic
+  pub reads : elementsFrom 6 line at ≡ some (record { value = elements; next = end })
+  pub short : longestElement elements ≤ textLimit
+  pub few : count elements ≤ room
+  pub are : topicsIn elements ≡ some topics
+
+pub last-topic : (line : List ℕ) (at room : ℕ) {end next : ℕ} → 0 < room → TopicTo line at end → separatorAt 0x5d line end ≡ Close next → TopicsFrom line at room next
+unfolding topicsIn bind longestElement count
+last-topic line at room h t q =
+    record {
+      elements = element at (t .value) no-element;
+      topics = t .topic ∷ [];
+      reads = items.elements-last 6 line at (t .reads) q;
+      short = omega (arith, t .short);
+      few = omega arith;
+      are = rw (t .is);
+    }
+
+pub next-topic : (line : List ℕ) (at room : ℕ) {less end next last : ℕ} → less < room → TopicTo line at end → separatorAt 0x5d line end ≡ Comma next
+    → TopicsFrom line next less last → TopicsFrom line at room last
+unfolding topicsIn bind longestElement count
+next-topic line at room h t q r =
+    record {
+      elements = element at (t .value) (r .elements);
+      topics = t .topic ∷ r .topics;
+      reads = items.elements-more 6 line at (t .reads) q (r .reads);
+      short = omega (arith, t .short, r .short);
+      few = omega (arith, r .few);
+      are = rw (t .is, r .are);
+    }
+
+pub topics-read : (line : List ℕ) (at : ℕ) {first end : ℕ} → isAt line at 0x5b ≡ true → first ≡ skipBlanks line (at + 1) → TopicsFrom line first topicsLimit end
+    → TopicsTo line at end
+topics-read line at o f t =
+    record { elements = t .elements; topics = t .topics; reads = items.array-read 6 line at o f (t .reads); short = t .short; few = t .few; are = t .are }
+
+pub topics-fine : (line : List ℕ) (at : ℕ) {end : ℕ} → TopicsTo line at end → (tooMany line (At at) ≡ false) × (topicsHere line at ≡ true)
+unfolding tooMany overTopics countOf topicsOf asArray bind isSome longest
+topics-fine line at {end} t =
+    let there = value-deeper 7 depthLimit line at (omega arith) (t .reads) in (
+      ap overTopics (count-is line at there) ∙ le-ltb topicsLimit (count (t .elements)) (t .few),
+      topics-here line (record { at = at; value = array (t .elements) }) (end, there, t .short) ∙ ap (λ (o : Option (List spec.Topic)). isSome (Option·map some o)) (t .are),
+    )
+
+-- ---- the elements of the line's array
+
+module _ (line : List ℕ) (at : ℕ) (holds : Elements → Type 0) {v : Json} {end : ℕ} (reads : valueAt 7 line at ≡ some (record { value = v; next = end })) (short : longest v ≤ textLimit) where
+  pub tail-last : {next last : ℕ} → separatorAt 0x5d line end ≡ Close next → last ≡ skipBlanks line next → last ≡ length line → holds (element at v no-element) → Tail line at holds
+  unfolding longestElement
+  tail-last {next} q b l h =
+      record {
+        rest = element at v no-element;
+        next = next;
+        reads = items.elements-last 7 line at reads q;
+        ends = sym b ∙ l;
+        short = omega arith;
+        fine = h;
+      }
+
+  pub tail-more : {next : ℕ} {behind : Elements → Type 0} → separatorAt 0x5d line end ≡ Comma next → Tail line next behind → ((rest : Elements) → behind rest → holds (element at v rest))
+      → Tail line at holds
+  unfolding longestElement
+  tail-more q t h =
+      record {
+        rest = element at v (t .rest);
+        next = t .next;
+        reads = items.elements-more 7 line at reads q (t .reads);
+        ends = t .ends;
+        short = omega (arith, t .short);
+        fine = h (t .rest) (t .fine);
+      }
+
+-- ---- the rule, by what is left of it
+
+-- where a rule is answered
+pub rule-answered : {r : RuleRead} {rule : Rule} (holds : Rule → Type 0) → r ≡ RuleIs rule → WhereRule r holds → holds rule
+rule-answered holds e h = subst (λ (r : RuleRead). WhereRule r holds) e h
+
+pub rule-map : {P Q : Rule → Type 0} (r : RuleRead) → ((rule : Rule) → P rule → Q rule) → WhereRule r P → WhereRule r Q
+rule-map (RuleIs rule) f h = f rule h
+rule-map (Refused cause) f h = tt
+
+-- a plain string is short if it is a word
+word-short : (t : List ℕ) → (wordOf t ≡ Other → ⊥) → length t ≤ textLimit
+word-short t h = by (leb (length t) 9) refl
+  where
+    by : (b : Bool) → leb (length t) 9 ≡ b → length t ≤ textLimit
+    by true e = omega (arith, leb-true (length t) 9 e)
+    by false e = absurd (h (word-long t (leb-false (length t) 9 e)))
+
+module _ (line : List ℕ) (allow : Bool) (users : Users) where
+  pub topics-tail : (control : Control) (at : ℕ) {end next last : ℕ} → TopicsTo line at end → separatorAt 0x5d line end ≡ Close next → last ≡ skipBlanks line next → last ≡ length line
+      → FromTopics line allow users control at (record { allow = allow; users = users; control = control; topics = Listed at })
+  unfolding nth placeOf longest
+  topics-tail control at t q b l =
+      let f = topics-fine line at t in
+      tail-last line at _ (t .reads) (t .short) q b l (f .0, topics-by line allow users control at (f .1))
+
+  module _ (at : ℕ) {end : ℕ} (p : Plain line at end) {control : Control} (w : controlOfWord (wordOf (take (end - (at + 1)) (drop (at + 1) line))) ≡ ControlIs control) where
+    t : List ℕ
+    t = take (end - (at + 1)) (drop (at + 1) line)
+
+    short : length t ≤ textLimit
+    unfolding controlOfWord t
+    short = word-short t (λ e. let z : _≡_ {A = ℕ} 0 1 = other (sym (ap controlOfWord e) ∙ w) in omega arith)
+      where
+        other : BadControl ≡ ControlIs control → _≡_ {A = ℕ} 0 1
+        other q = cc
+
+    here : controlHere line (At at) ≡ ControlIs control
+    unfolding controlHere
+    here = ap controlOfWord (word-here line at (p .string)) ∙ w
+
+    pub control-last : {next last : ℕ} → separatorAt 0x5d line (end + 1) ≡ Close next → last ≡ skipBlanks line next → last ≡ length line
+        → FromControl line allow users at (record { allow = allow; users = users; control = control; topics = AllTopics })
+    unfolding nth placeOf longest t tooMany withControl withTopics
+    control-last q b l = tail-last line at _ (plain-value 7 line at p) short q b l (refl, ap (λ (c : ControlRead). withControl line allow users c Nowhere) here)
+
+    pub control-more : {next : ℕ} {rule : Rule} → separatorAt 0x5d line (end + 1) ≡ Comma next → FromTopics line allow users control next rule → FromControl line allow users at rule
+    unfolding nth placeOf longest t withControl
+    control-more q f =
+        tail-more line at _ (plain-value 7 line at p) short q f
+        (λ rest h. (h .0, ap (λ (c : ControlRead). withControl line allow users c (placeOf (nth 0 rest))) here ∙ h .1))
+
+module _ (line : List ℕ) (allow : Bool) (at : ℕ) {v : Json} {end : ℕ} (reads : valueAt 7 line at ≡ some (record { value = v; next = end })) (short : longest v ≤ textLimit)
+    {users : Users} (are : usersOfPlace line allow (At at) ≡ UsersAre users) where
+  pub users-last : {next last : ℕ} → separatorAt 0x5d line end ≡ Close next → last ≡ skipBlanks line next → last ≡ length line
+      → FromUsers line allow at (record { allow = allow; users = users; control = All; topics = AllTopics })
+  unfolding nth placeOf tooMany withUsers withControl withTopics controlHere
+  users-last q b l = tail-last line at _ reads short q b l (refl, ap (λ (u : UsersRead). withUsers line allow u Nowhere Nowhere) are)
+
+  pub users-more : {next : ℕ} {rule : Rule} → separatorAt 0x5d line end ≡ Comma next → FromControl line allow users next rule → FromUsers line allow at rule
+  unfolding nth placeOf withUsers
+  users-more q f =
+      tail-more line at _ reads short q f
+      (λ rest h. (h .0, ap (λ (u : UsersRead). withUsers line allow u (placeOf (nth 0 rest)) (placeOf (nth 1 rest))) are ∙ h .1))
+
+-- ---- a line
+
+module _ (line : List ℕ) (allow : Bool) {first access end users : ℕ} {w : Word} where
+  pub line-rule : ((parts : Parts) → withAccess line parts w ≡ ruleBehind line parts allow) → (w ≡ Other → ⊥)
+      → first ≡ skipBlanks line 0 → isAt line first 0x5b ≡ true → access ≡ skipBlanks line (first + 1)
+      → Plain line access end → wordOf (take (end - (access + 1)) (drop (access + 1) line)) ≡ w → separatorAt 0x5d line (end + 1) ≡ Comma users
+      → {rule : Rule} → FromUsers line allow users rule → IsRule line rule
+  unfolding longest longestElement checked nth placeOf placed accessAt ruleBehind
+  line-rule is-access no-other f o a p word q {rule} t fits =
+      read-valid line fits (ap checked (line-read line f reads (t .ends))) (le-ltb textLimit (longest (array es)) (omega (arith, short, t .short)))
+      ∙ (here-by line (sym (parts-placed line (skipBlanks line 0 + 1) (t .next) es (found .first) (found .elements))) (t .fine .0) refl
+      ∙ (ap (withAccess line parts) (word-here line access (p .string) ∙ word) ∙ (is-access parts ∙ t .fine .1)))
+    where
+      s : List ℕ
+      s = take (end - (access + 1)) (drop (access + 1) line)
+
+      es : Elements
+      es = element access (text s) (t .rest)
+
+      parts : Parts
+      parts = placed line (nth 0 es) (nth 1 es) (nth 2 es) (nth 3 es)
+
+      short : length s ≤ textLimit
+      short = word-short s (λ e. no-other (sym word ∙ e))
+
+      reads : valueHere line first ≡ some (record { value = array es; next = t .next })
+      reads = items.array-read 7 line first o a (items.elements-more 7 line access (plain-value 7 line access p) q (t .reads))
+
+      found : ArrayIs line (skipBlanks line 0) (t .next) es
+      found = array-is line (skipBlanks line 0) (ap (valueHere line) (sym f) ∙ reads) refl

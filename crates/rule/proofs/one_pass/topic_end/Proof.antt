@@ -1,0 +1,123 @@
+-- A plain string is tested as it stands; any other value is passed over, and is a topic or not. Assumes nothing.
+use native.Mathlib.Omega.{arith}
+use mathlib.Core.Path.{sym, ap, _∙_}
+use denote.Ref.{now}
+use Rattle.json.specs.Json.{longest}
+use Rattle.json.proofs.PlainLaws.{Plain, plain-string}
+use Rattle.json.proofs.ElementLaws.{stepped-some}
+use Rattle.rule.specs.Places.{isTopic}
+use Rattle.rule.proofs.TopicLaws.{good-topic}
+use Rattle.rule.proofs.OnePassLaws.{plain-topic, value-topic}
+use borrow.Author.Needs.{needs}
+use Rattle.rule.proofs.one_pass.topic_end.Statement.{statement}
+use Rattle.rule.proofs.one_pass.topic_end.Tie as tie
+
+-- the plain string that was found
+found : (c : tie.After-known-told) →
+    let a = c .before .before .before .before .before .args in
+    Plain (now (a .line)) (a .at) (c .before .end .given .0 .0)
+found c =
+    let a = c .before .before .before .before .before .args in
+    plain-string (now (a .line)) (a .at) (sym (c .before .before .before .plain-text .ensures) ∙ c .before .end .given .1)
+
+plain-text-requires : tie.Need-plain-text-requires
+plain-text-requires c κs = search needs
+
+enum-known-end : tie.Need-enum-known-end
+enum-known-end c = search needs
+
+add-if1 : tie.Need-add-if1
+add-if1 c = let p = found c in omega arith
+
+sub-if1 : tie.Need-sub-if1
+sub-if1 c = let p = found c in omega arith
+
+returns : tie.Need-returns
+returns c = search needs
+
+add-is-topic : tie.Need-add-is-topic
+add-is-topic c = let p = found (c .before) in omega arith
+
+sub-is-topic : tie.Need-sub-is-topic
+sub-is-topic c = let p = found (c .before) in omega arith
+
+part-is-topic-start : tie.Need-part-is-topic-start
+part-is-topic-start c = let p = found (c .before) in omega arith
+
+part-is-topic-end : tie.Need-part-is-topic-end
+part-is-topic-end c = let p = found (c .before) in omega arith
+
+is-topic-requires : tie.Need-is-topic-requires
+is-topic-requires c κs = search needs
+
+add-t13 : tie.Need-add-t13
+add-t13 c = let p = found (c .before .before .before .before) in omega arith
+
+returns-2 : tie.Need-returns-2
+returns-2 c =
+    let a = c .before .before .before .before .before .before .before .before .before .args in
+    plain-topic (now (a .line)) (a .at) (found (c .before .before .before .before)) (c .before .before .before .if1 .left) (sym (c .before .is-topic .ensures) ∙ c .if2 .taken)
+
+returns-3 : tie.Need-returns-3
+returns-3 c = search needs
+
+enum-told : tie.Need-enum-told
+enum-told c = search needs
+
+value-requires : tie.Need-value-requires
+value-requires c κs = search needs
+
+enum-told-2 : tie.Need-enum-told-2
+enum-told-2 c = search needs
+
+enum-known-c : tie.Need-enum-known-c
+enum-known-c c = search needs
+
+returns-4 : tie.Need-returns-4
+returns-4 c = search needs
+
+topic-at-requires : tie.Need-topic-at-requires
+topic-at-requires c κs = search needs
+
+enum-told-3 : tie.Need-enum-told-3
+enum-told-3 c = search needs
+
+returns-5 : tie.Need-returns-5
+returns-5 c = search needs
+
+returns-6 : tie.Need-returns-6
+returns-6 c = search needs
+
+returns-7 : tie.Need-returns-7
+returns-7 c =
+    let a = c .before .before .before .before .before .before .before .before .before .before .before .before .args in
+    let r = stepped-some longest 0 _ (sym (c .before .before .before .before .before .before .before .value .ensures) ∙ c .before .before .before .before .before .c .given .1) in
+    value-topic (now (a .line)) (a .at) (r .is) (omega (arith, r .long)) (ap isTopic (sym (c .before .topic-at .ensures)) ∙ good-topic (c .before .topic-at .result) (c .match3 .keys2))
+
+pub topic-end-spec : {M : Type 1} → statement M
+topic-end-spec =
+    tie.close
+    (tie.spec
+    plain-text-requires
+    enum-known-end
+    add-if1
+    sub-if1
+    returns
+    add-is-topic
+    sub-is-topic
+    part-is-topic-start
+    part-is-topic-end
+    is-topic-requires
+    add-t13
+    returns-2
+    returns-3
+    enum-told
+    value-requires
+    enum-told-2
+    enum-known-c
+    returns-4
+    topic-at-requires
+    enum-told-3
+    returns-5
+    returns-6
+    returns-7)

@@ -1,0 +1,199 @@
+// A rule from its line in one pass, where its words are plain: each value is passed over once, as it is read. Whatever such a rule has
+// not is left to the caller, which reads the line step by step; so nothing here refuses a line.
+use crate::Control;
+use crate::ControlRead;
+use crate::Refusal;
+use crate::Rule;
+use crate::RuleRead;
+use crate::TEXT;
+use crate::TOPICS;
+use crate::Topic;
+use crate::Topics;
+use crate::Users;
+use crate::UsersRead;
+use crate::Word;
+use crate::listed::users_at;
+use crate::topic_list::is_template;
+use crate::topic_list::topic_at;
+use crate::words::control_of;
+use crate::words::word_of;
+use json::Cursor;
+use json::Place;
+use json::Separator;
+use json::Step;
+use json::access::plain_text;
+use json::values::is_at;
+use json::values::separator;
+use json::values::skip_blanks;
+use json::values::value;
+ghost use mathlib.Core.Path.{_≡_};
+ghost use mathlib.Core.Bool.{_||_};
+ghost use Rattle.topic.specs.Topic.{validFilter};
+ghost use Rattle.rule.specs.Rule as rule;
+ghost use Rattle.rule.specs.OnePass as spec;
+
+// Is the text a template, or a valid filter?
+fn is_topic(text: &[u8]) -> bool
+    ensures { λ r. ⌜ r ≡ (rule.isTemplate (now (text .entry)) || validFilter (now (text .entry))) ⌝ }
+{
+    if is_template(text) {
+        return true;
+    }
+    topic::valid_filter(text)
+}
+
+// The place behind the topic at this place.
+fn topic_end(line: &[u8], at: usize) -> Place
+    ensures { λ r. ⌜ spec.WherePlace r (spec.TopicTo (now (line .entry)) at) ⌝ }
+{
+    if let Place::At(end) = plain_text(line, at) {
+        if TEXT < end - (at + 1) {
+            return Place::Nowhere;
+        }
+        if is_topic(&line[at + 1..end]) {
+            return Place::At(end + 1);
+        }
+        return Place::Nowhere;
+    }
+    match value(Cursor { at, longest: 0 }, line, 6) {
+        Step::Bad => Place::Nowhere,
+        Step::Next(c) => {
+            if TEXT < c.longest {
+                return Place::Nowhere;
+            }
+            if let Topic::Bad = topic_at(line, at) {
+                return Place::Nowhere;
+            }
+            Place::At(c.at)
+        }
+    }
+}
+
+// The place behind the array of topics at this place.
+fn topics_end(line: &[u8], at: usize) -> Place
+    ensures { λ r. ⌜ spec.WherePlace r (spec.TopicsTo (now (line .entry)) at) ⌝ }
+{
+    if !is_at(line, at, b'[') {
+        return Place::Nowhere;
+    }
+    let mut i = skip_blanks(line, at + 1);
+    let mut n: u64 = 0;
+    while n < TOPICS {
+        let Place::At(end) = topic_end(line, i) else {
+            return Place::Nowhere;
+        };
+        n += 1;
+        match separator(line, end, b']') {
+            Separator::Close(next) => {
+                return Place::At(next);
+            }
+            Separator::Comma(next) => {
+                i = next;
+            }
+            Separator::Neither => {
+                return Place::Nowhere;
+            }
+        }
+    }
+    Place::Nowhere
+}
+
+// The rule, from its topics on.
+fn from_topics(line: &[u8], allow: bool, users: Users, control: Control, at: usize) -> RuleRead
+    ensures { λ r. ⌜ spec.WhereRule r (spec.FromTopics (now (line .entry)) allow users control at) ⌝ }
+{
+    let Place::At(end) = topics_end(line, at) else {
+        return RuleRead::Refused(Refusal::NotARule);
+    };
+    let Separator::Close(next) = separator(line, end, b']') else {
+        return RuleRead::Refused(Refusal::NotARule);
+    };
+    if skip_blanks(line, next) != line.len() {
+        return RuleRead::Refused(Refusal::NotARule);
+    }
+    RuleRead::Rule(Rule {
+        allow,
+        users,
+        control,
+        topics: Topics::Listed(at),
+    })
+}
+
+// The rule, from its control on.
+fn from_control(line: &[u8], allow: bool, users: Users, at: usize) -> RuleRead
+    ensures { λ r. ⌜ spec.WhereRule r (spec.FromControl (now (line .entry)) allow users at) ⌝ }
+{
+    let Place::At(end) = plain_text(line, at) else {
+        return RuleRead::Refused(Refusal::NotARule);
+    };
+    let ControlRead::Is(control) = control_of(word_of(&line[at + 1..end])) else {
+        return RuleRead::Refused(Refusal::NotARule);
+    };
+    match separator(line, end + 1, b']') {
+        Separator::Comma(next) => from_topics(line, allow, users, control, next),
+        Separator::Close(next) => {
+            if skip_blanks(line, next) != line.len() {
+                return RuleRead::Refused(Refusal::NotARule);
+            }
+            RuleRead::Rule(Rule {
+                allow,
+                users,
+                control,
+                topics: Topics::All,
+            })
+        }
+        Separator::Neither => RuleRead::Refused(Refusal::NotARule),
+    }
+}
+
+// The rule, from its users on.
+fn from_users(line: &[u8], allow: bool, at: usize) -> RuleRead
+    ensures { λ r. ⌜ spec.WhereRule r (spec.FromUsers (now (line .entry)) allow at) ⌝ }
+{
+    let Step::Next(c) = value(Cursor { at, longest: 0 }, line, 7) else {
+        return RuleRead::Refused(Refusal::NotARule);
+    };
+    if TEXT < c.longest {
+        return RuleRead::Refused(Refusal::NotARule);
+    }
+    let UsersRead::Users(users) = users_at(line, at, allow) else {
+        return RuleRead::Refused(Refusal::NotARule);
+    };
+    match separator(line, c.at, b']') {
+        Separator::Comma(next) => from_control(line, allow, users, next),
+        Separator::Close(next) => {
+            if skip_blanks(line, next) != line.len() {
+                return RuleRead::Refused(Refusal::NotARule);
+            }
+            RuleRead::Rule(Rule {
+                allow,
+                users,
+                control: Control::All,
+                topics: Topics::All,
+            })
+        }
+        Separator::Neither => RuleRead::Refused(Refusal::NotARule),
+    }
+}
+
+// The rule of the line, if this is one to be read in one pass.
+pub fn in_one_pass(line: &[u8]) -> RuleRead
+    ensures { λ r. ⌜ spec.WhereRule r (spec.IsRule (now (line .entry))) ⌝ }
+{
+    let first = skip_blanks(line, 0);
+    if !is_at(line, first, b'[') {
+        return RuleRead::Refused(Refusal::NotARule);
+    }
+    let access = skip_blanks(line, first + 1);
+    let Place::At(end) = plain_text(line, access) else {
+        return RuleRead::Refused(Refusal::NotARule);
+    };
+    let Separator::Comma(users) = separator(line, end + 1, b']') else {
+        return RuleRead::Refused(Refusal::NotARule);
+    };
+    match word_of(&line[access + 1..end]) {
+        Word::Allow => from_users(line, true, users),
+        Word::Deny => from_users(line, false, users),
+        _ => RuleRead::Refused(Refusal::NotARule),
+    }
+}
