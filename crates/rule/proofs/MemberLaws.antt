@@ -31,6 +31,8 @@ use Rattle.json.proofs.ValueLaws.{All, valueAs, value-by}
 use Rattle.rule.specs.Rule as spec
 use Rattle.rule.specs.Rule.{Located, Value, named, member-named, asText, asNumber, asBool, asObject, passwordOf, flag, userOf, usersIn, everyone, usersOf, isWord, lower}
 use Rattle.rule.specs.Places.{wordOf, wordAt, valueOf, objectOf, memberOf, isTextKind, isTextAt, textPlace, foundNumber, foundBool, passwordAnswer, placedUser, userHere, userAnswer, placedProtocol, protocolHere, placedUsers, listedIn, usersHere, usersAnswer}
+use Rattle.rule.specs.Members.{textFrom, numberFrom, truthFrom, passwordFrom, flagged, withPassword, userFrom, protocolFrom, usersFrom, userListed, usersListed, placesAt, placesIn, noPlaces}
+use Rattle.rule.specs.declared.MemberPlaces.{MemberPlaces}
 use Rattle.rule.specs.declared.Word.{Word}
 use Rattle.rule.specs.declared.Word.the-variants.{Allow, Deny, All as WordAll, Connect as WordConnect, Publish as WordPublish, Subscribe as WordSubscribe, Pubsub as WordPubsub, Other as OtherWord}
 use Rattle.rule.specs.declared.User.the-variants.{Anyone, Named}
@@ -88,22 +90,6 @@ member-stands name line at = by (valueHere line at) refl
         (in-value r (r .value) e refl)
 
 -- ---- what the accessors of a member give, by its place
-
-unfoldable pub textFrom : List ℕ → Place → Place
-textFrom line Nowhere = Nowhere
-textFrom line (At p) = cond (isTextAt line p) (At p) Nowhere
-
-unfoldable pub numberFrom : List ℕ → Place → Found
-numberFrom line Nowhere = Absent
-numberFrom line (At p) = numberHere line p
-
-unfoldable pub truthFrom : List ℕ → Place → Truth
-truthFrom line Nowhere = Unknown
-truthFrom line (At p) = truthHere line p
-
-unfoldable pub passwordFrom : List ℕ → Place → PasswordRead
-passwordFrom line Nowhere = Password Nowhere
-passwordFrom line (At p) = cond (isTextAt line p) (Password (At p)) BadPassword
 
 module _ (line : List ℕ) where
   text-stands : (place : Place) (o : Option Value) → Stands line place o → textPlace (bind o asText) ≡ textFrom line place
@@ -202,18 +188,6 @@ object-member line at name = by (valueOf line at)
     by none = refl
     by (some v) = refl
 
-unfoldable pub flagged : Truth → Bool
-flagged Unknown = false
-flagged (Holds b) = b
-
-unfoldable pub withPassword : ℕ → PasswordRead → Truth → UserRead
-withPassword name BadPassword truth = BadUser
-withPassword name (Password p) truth = UserIs (Named name p (flagged truth))
-
-unfoldable pub userFrom : Bool → Place → PasswordRead → Truth → UserRead
-userFrom allow Nowhere password truth = UserIs Anyone
-userFrom allow (At name) password truth = cond allow (withPassword name password truth) (UserIs (Named name Nowhere false))
-
 pub user-by : (allow : Bool) (line : List ℕ) (at : ℕ) {b : Bool} {name : Place} {password : PasswordRead} {truth : Truth}
     → allow ≡ b
     → textPlace (bind (memberOf line at (ascii "user")) asText) ≡ name
@@ -251,10 +225,6 @@ user-by allow line at z e f g =
     by (some ms) =
         each allow (bind (member-named (ascii "user") ms) asText) (passwordOf (member-named (ascii "password") ms))
         (bind (member-named (ascii "superuser") ms) asBool)
-
-unfoldable pub usersFrom : UserRead → Place → Place → Protocol → UsersRead
-usersFrom BadUser clientid ipaddr protocol = BadUsers
-usersFrom (UserIs user) clientid ipaddr protocol = UsersAre (record { user = user; clientid = clientid; ipaddr = ipaddr; protocol = protocol })
 
 value-there : (line : List ℕ) (at : ℕ) {p : ℕ} → behind (valueHere line at) ≡ At p → valueOf line at ≡ none → ⊥
 unfolding valueOf bind behind
@@ -318,6 +288,51 @@ protocol-by line at e =
         ≡ elim (foundNumber o) as (λ _. Protocol) [ Absent ↦ Any | FoundIs n ↦ ProtocolIs (n % 256) ]
     by none = refl
     by (some n) = refl
+
+-- the user, by what the places of its members give
+pub user-listed : {allow : Bool} (line : List ℕ) (m : MemberPlaces) {b : Bool} {name : Place} {password : PasswordRead} {truth : Truth} → allow ≡ b → textFrom line (m .user) ≡ name
+    → passwordFrom line (m .password) ≡ password → truthFrom line (m .superuser) ≡ truth → userListed allow line m ≡ userFrom b name password truth
+unfolding userListed
+user-listed line m z e f g = λ i. userFrom (z i) (e i) (f i) (g i)
+
+pub users-places : (allow : Bool) (line : List ℕ) (m : MemberPlaces) {user : UserRead} {clientid ipaddr : Place} {protocol : Protocol} → userListed allow line m ≡ user
+    → textFrom line (m .clientid) ≡ clientid → textFrom line (m .ipaddr) ≡ ipaddr → protocolFrom (numberFrom line (m .protocol)) ≡ protocol
+    → usersListed allow line m ≡ usersFrom user clientid ipaddr protocol
+unfolding usersListed
+users-places allow line m e f g h = λ i. usersFrom (e i) (f i) (g i) (h i)
+
+-- the users, by the places of all members
+pub users-listed : (allow : Bool) (line : List ℕ) (at : ℕ) {p : ℕ} {m : MemberPlaces} → behind (valueHere line at) ≡ At p → m ≡ placesAt line at
+    → usersAnswer (usersHere allow line at) ≡ usersListed allow line m
+unfolding usersListed userListed placesAt protocolFrom
+users-listed allow line at {m = m} there e =
+    users-by allow line at there
+    (user-by allow line at refl
+    (text-by line (ascii "user") at (ap (λ (x : MemberPlaces). x .user) (sym e)))
+    (password-by line (ascii "password") at (ap (λ (x : MemberPlaces). x .password) (sym e)))
+    (truth-by line (ascii "superuser") at (ap (λ (x : MemberPlaces). x .superuser) (sym e))))
+    (text-by line (ascii "clientid") at (ap (λ (x : MemberPlaces). x .clientid) (sym e)))
+    (text-by line (ascii "ipaddr") at (ap (λ (x : MemberPlaces). x .ipaddr) (sym e)))
+    (protocol-by line at (number-by line (ascii "protocol") at (ap (λ (x : MemberPlaces). x .protocol) (sym e))) ∙ by (numberFrom line (m .protocol)))
+  where
+    by : (n : Found) → elim n as (λ _. Protocol) [ Absent ↦ Any | FoundIs n ↦ ProtocolIs (n % 256) ] ≡ protocolFrom n
+    by Absent = refl
+    by (FoundIs n) = refl
+
+-- an object's members are found where a pass over them finds them
+pub places-in : (line : List ℕ) (at : ℕ) {ms : Members} {next : ℕ} → valueHere line at ≡ some (record { value = object ms; next = next }) → placesIn ms noPlaces ≡ placesAt line at
+unfolding placesIn placesAt namedIn
+places-in line at {ms} e =
+    let f : (name : List ℕ) → lastNamed name ms Nowhere ≡ memberNamed name line at = λ name. sym (named-is name line at e) in
+    λ i.
+    record {
+      user = f (ascii "user") i;
+      password = f (ascii "password") i;
+      superuser = f (ascii "superuser") i;
+      clientid = f (ascii "clientid") i;
+      ipaddr = f (ascii "ipaddr") i;
+      protocol = f (ascii "protocol") i;
+    }
 
 -- ---- by the kind of the value at a place
 

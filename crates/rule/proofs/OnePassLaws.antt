@@ -9,8 +9,11 @@ use lib.Dec.{leb}
 use borrow.Author.Tests.{le-ltb, leb-true, leb-false}
 use lib.ListN.{length, take, drop, length-take}
 use Rattle.topic.specs.Topic.{validFilter}
-use Rattle.json.specs.Json.{Json, text, array, Elements, no-element, element, Read, isAt, skipBlanks, separatorAt, valueAt, depthLimit, longest, longestElement}
-use Rattle.json.specs.Access.{count, countOf, checked, valueHere}
+use Rattle.json.specs.Json.{Json, text, array, object, Elements, no-element, element, Members, no-member, member, Read, isAt, skipBlanks, textAt, nameAt, separatorAt, valueAt, depthLimit, longest, longestElement, longestMember}
+use Rattle.json.specs.Access.{count, countOf, checked, valueHere, stepped, behind}
+use Rattle.json.specs.Strings.{Decoded}
+use Rattle.json.specs.declared.Cursor.{Cursor}
+use Rattle.json.specs.declared.Step.the-variants.{Next}
 use Rattle.json.specs.declared.Separator.the-variants.{Close, Comma}
 use Rattle.json.specs.declared.Place.{Place}
 use Rattle.json.specs.declared.Place.the-variants.{At, Nowhere}
@@ -28,17 +31,26 @@ use Rattle.rule.specs.declared.Topics.the-variants.{All as AllTopics, Li
 use Rattle.rule.specs.declared.Rule.{Rule}
 use Rattle.rule.specs.declared.RuleRead.{RuleRead}
 use Rattle.rule.specs.declared.RuleRead.the-variants.{Rule as RuleIs, Refused}
-use Rattle.json.proofs.ValueLaws.{value-deeper, elementsFrom}
-use Rattle.json.proofs.AccessLaws.{count-is, ArrayIs, array-is}
+use Rattle.json.proofs.ValueLaws.{value-deeper, value-next, elementsFrom, membersFrom}
+use Rattle.json.proofs.ScanLaws.{name-next, comma-next}
+use Rattle.json.proofs.AccessSteps.{kindIs}
+use Rattle.json.proofs.AccessLaws.{kind-is, count-is, ArrayIs, array-is}
 use Rattle.json.proofs.PlainLaws.{Plain, plain-value}
 use Rattle.json.proofs.ElementLaws as items
 use Rattle.json.proofs.ElementLaws.{line-read}
 use Rattle.rule.specs.Limits.{textLimit, topicsLimit}
 use Rattle.rule.specs.Rule as spec
 use Rattle.rule.specs.Rule.{Value, nth, isTemplate, asText, asArray, asObject, topicOf, topicsIn, topicsOf}
-use Rattle.rule.specs.Places.{valueOf, topicAnswer, isTopic, overTopics, tooMany, topicsHere, placeOf, wordOf, controlOfWord, controlHere, usersOfPlace, withTopics, withControl, withUsers, ruleBehind, withAccess, accessAt}
+use Rattle.rule.specs.Places.{valueOf, usersAnswer, topicAnswer, isTopic, overTopics, tooMany, topicsHere, placeOf, wordOf, controlOfWord, controlHere, usersOfPlace, withTopics, withControl, withUsers, ruleBehind, withAccess, accessAt}
 use Rattle.rule.specs.OnePass.{WherePlace, TopicTo, TopicsTo, Tail, WhereRule, FromTopics, FromControl, FromUsers, IsRule}
 use Rattle.rule.proofs.RuleLaws.{isSome, topics-here, placed, parts-placed, read-valid}
+use Rattle.rule.specs.Members.{valueBehind, usersListed, placesIn, noPlaces, MembersTo, WhereMembers, UsersTo, WhereUsers}
+use Rattle.rule.specs.declared.MembersPassed.{MembersPassed}
+use Rattle.rule.specs.declared.MembersPassed.the-variants.{Places}
+use Rattle.rule.specs.declared.UsersPassed.{UsersPassed}
+use Rattle.rule.specs.declared.UsersPassed.the-variants.{Users as PassedUsers}
+use Rattle.rule.specs.declared.MemberPlaces.{MemberPlaces}
+use Rattle.rule.proofs.MemberLaws.{users-object, users-listed, places-in}
 use Rattle.rule.proofs.WordLaws.{word-long, word-here}
 use Rattle.rule.proofs.ReadLaws.{topics-by, here-by}
 
@@ -157,6 +169,101 @@ module _ (line : List ℕ) (at : ℕ) (holds : Elements → Type 0) {v : Json} {
         short = omega (arith, t .short);
         fine = h (t .rest) (t .fine);
       }
+
+-- ---- the members of an object
+
+-- the value behind a name, by the byte behind the blanks
+pub behind-name : (line : List ℕ) (at : ℕ) {p : ℕ} {colon : Bool} → p ≡ skipBlanks line at → isAt line p 0x3a ≡ colon → valueBehind line at ≡ cond colon (At (skipBlanks line (p + 1))) Nowhere
+unfolding valueBehind
+behind-name line at e q = λ i. cond ((ap (λ (p : ℕ). isAt line p 0x3a) (sym e) ∙ q) i) (At (skipBlanks line (sym e i + 1))) Nowhere
+
+-- the name of a member, from its plain string
+name-read : (line : List ℕ) (at : ℕ) {end p : ℕ} → Plain line at end → valueBehind line (end + 1) ≡ At p
+    → nameAt line at ≡ some (record { value = take (end - (at + 1)) (drop (at + 1) line); next = p })
+unfolding nameAt textAt bind valueBehind
+name-read line at {end} {p} s e =
+    ap (λ o. bind (bind o (λ (d : Decoded). some (record { value = d .text; next = at + 1 + d .size }))) named) (s .string)
+    ∙ (ap (λ (n : ℕ). named (record { value = t; next = n })) behind ∙ by (isAt line (skipBlanks line (end + 1)) 0x3a) e)
+  where
+    t : List ℕ
+    t = take (end - (at + 1)) (drop (at + 1) line)
+
+    named : Read (List ℕ) → Option (Read (List ℕ))
+    named name = let q = skipBlanks line (name .next) in cond (isAt line q 0x3a) (some (record { value = name .value; next = skipBlanks line (q + 1) })) none
+
+    behind : at + 1 + (end - at) ≡ end + 1
+    behind = omega (arith, s .ahead)
+
+    by : (b : Bool) → cond b (At (skipBlanks line (skipBlanks line (end + 1) + 1))) Nowhere ≡ At p
+        → _≡_ {A = Option (Read (List ℕ))} (cond b (some (record { value = t; next = skipBlanks line (skipBlanks line (end + 1) + 1) })) none) (some (record { value = t; next = p }))
+    by true q = let next : skipBlanks line (skipBlanks line (end + 1) + 1) ≡ p = cc in λ i. some (record { value = t; next = next i })
+    by false q = let z : _≡_ {A = ℕ} 0 1 = cc in absurd (omega arith)
+
+-- a member that was read: its name, the place of its value and the place behind it
+pub record MemberAt (line : List ℕ) (at : ℕ) (name : List ℕ) (p end : ℕ) : Type 0 where
+  pub value : Json
+  pub named : nameAt line at ≡ some (record { value = name; next = p })
+  pub reads : valueAt 6 line p ≡ some (record { value = value; next = end })
+  pub short-name : length name ≤ textLimit
+  pub short : longest value ≤ textLimit
+
+pub member-read : (line : List ℕ) (at : ℕ) {end p : ℕ} {c : Cursor} → Plain line at end → valueBehind line (end + 1) ≡ At p
+    → stepped longest (end - (at + 1)) (valueAt 6 line p) ≡ Next c → c .longest ≤ textLimit → MemberAt line at (take (end - (at + 1)) (drop (at + 1) line)) p (c .at)
+member-read line at {end} {p} s e v h =
+    let r = items.stepped-some longest (end - (at + 1)) (valueAt 6 line p) v in
+    record {
+      value = r .value;
+      named = name-read line at s e;
+      reads = r .is;
+      short-name = omega (arith, length-take (end - (at + 1)) (drop (at + 1) line), r .long);
+      short = omega (arith, r .long);
+    }
+
+pub member-forward : (line : List ℕ) {at : ℕ} {name : List ℕ} {p end next : ℕ} → MemberAt line at name p end → separatorAt 0x7d line end ≡ Comma next → (at < next) × (next ≤ length line)
+member-forward line {at} {p = p} {end = end} m q = omega (arith, name-next line at (m .named), value-next 6 line p (m .reads), comma-next line end 0x7d q)
+
+-- members from a place on, and behind them the closing bracket
+pub record MembersFrom (line : List ℕ) (at : ℕ) (rest : Members) (end : ℕ) : Type 0 where
+  pub reads : membersFrom 6 line at ≡ some (record { value = rest; next = end })
+  pub short : longestMember rest ≤ textLimit
+
+pub last-member : (line : List ℕ) {at : ℕ} {name : List ℕ} {p end next : ℕ} (m : MemberAt line at name p end) → separatorAt 0x7d line end ≡ Close next
+    → MembersFrom line at (member at name p (m .value) no-member) next
+unfolding longestMember
+last-member line {at} m q = record { reads = items.members-last 6 line at (m .named) (m .reads) q; short = omega (arith, m .short-name, m .short) }
+
+pub next-member : (line : List ℕ) {at : ℕ} {name : List ℕ} {p end next last : ℕ} {rest : Members} (m : MemberAt line at name p end) → separatorAt 0x7d line end ≡ Comma next
+    → MembersFrom line next rest last → MembersFrom line at (member at name p (m .value) rest) last
+unfolding longestMember
+next-member line {at} m q f = record { reads = items.members-more 6 line at (m .named) (m .reads) q (f .reads); short = omega (arith, m .short-name, m .short, f .short) }
+
+pub first-member : (line : List ℕ) (at : ℕ) {first end : ℕ} {rest : Members} → isAt line at 0x7b ≡ true → first ≡ skipBlanks line (at + 1) → MembersFrom line first rest end
+    → MembersTo line at (placesIn rest noPlaces) end
+first-member line at {rest = rest} o f m = record { members = rest; reads = items.object-read 6 line at o f (m .reads); short = m .short; are = refl }
+
+-- where members' places, and users, are answered
+pub members-answered : {r : MembersPassed} {m : MemberPlaces} {end : ℕ} (holds : MemberPlaces → ℕ → Type 0) → r ≡ Places m end → WhereMembers r holds → holds m end
+members-answered holds e h = subst (λ (r : MembersPassed). WhereMembers r holds) e h
+
+pub users-answered : {r : UsersPassed} {users : Users} {end : ℕ} (holds : Users → ℕ → Type 0) → r ≡ PassedUsers users end → WhereUsers r holds → holds users end
+users-answered holds e h = subst (λ (r : UsersPassed). WhereUsers r holds) e h
+
+-- the users of an object, by the places of its members
+pub members-users : (line : List ℕ) (allow : Bool) (at : ℕ) {m : MemberPlaces} {end : ℕ} {users : Users} → MembersTo line at m end → usersListed allow line m ≡ UsersAre users
+    → UsersTo line allow at users end
+unfolding longest usersOfPlace behind kindIs
+members-users line allow at {m} {end} t e =
+    record {
+      value = object (t .members);
+      reads = t .reads;
+      short = t .short;
+      are =
+          ap usersAnswer (sym (users-object allow line at (kind-is depthLimit line at there)))
+          ∙ (users-listed allow line at (ap behind there) (t .are ∙ places-in line at there) ∙ e);
+    }
+  where
+    there : valueHere line at ≡ some (record { value = object (t .members); next = end })
+    there = value-deeper 7 depthLimit line at (omega arith) (t .reads)
 
 -- ---- the rule, by what is left of it
 

@@ -6,4 +6,5 @@ pub mod Fill
 pub mod RuleText
 pub mod Places
 pub mod Agreement
+pub mod Members
 pub mod OnePass

@@ -73,6 +73,28 @@ pub struct Users {
     pub protocol: Protocol,
 }
 
+// The values of an object's members that say something of users, by their places.
+pub struct MemberPlaces {
+    pub user: Place,
+    pub password: Place,
+    pub superuser: Place,
+    pub clientid: Place,
+    pub ipaddr: Place,
+    pub protocol: Place,
+}
+
+// The members of an object that was passed over, and the place behind it; or that it was not.
+pub enum MembersPassed {
+    Places(MemberPlaces, usize),
+    Unread,
+}
+
+// The users and the place behind them, of a value that was passed over; or that it was not.
+pub enum UsersPassed {
+    Users(Users, usize),
+    Unread,
+}
+
 pub enum UsersRead {
     Users(Users),
     Bad,

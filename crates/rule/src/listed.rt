@@ -1,4 +1,5 @@
 // The users that a rule lists.
+use crate::MemberPlaces;
 use crate::PasswordRead;
 use crate::Protocol;
 use crate::User;
@@ -19,7 +20,7 @@ ghost use mathlib.Core.Path.{_≡_};
 ghost use mathlib.Core.Option.{bind};
 ghost use Rattle.rule.specs.Rule as rule;
 ghost use Rattle.rule.specs.Places as spec;
-ghost use Rattle.text.specs.Ascii.{ascii};
+ghost use Rattle.rule.specs.Members as members;
 
 // Is the value at this place a string?
 fn is_text(line: &[u8], at: usize) -> bool
@@ -31,11 +32,11 @@ fn is_text(line: &[u8], at: usize) -> bool
     }
 }
 
-// The string that the last member with this name has, of the object at this place.
-pub fn text_member(line: &[u8], at: usize, name: &[u8]) -> Place
-    ensures { λ r. ⌜ r ≡ spec.textPlace (bind (spec.memberOf (now (line .entry)) at (now (name .entry))) rule.asText) ⌝ }
+// The string at a place, if one stands there.
+fn text_at(line: &[u8], at: Place) -> Place
+    ensures { λ r. ⌜ r ≡ members.textFrom (now (line .entry)) at ⌝ }
 {
-    match member(line, at, name) {
+    match at {
         Place::At(p) => {
             if is_text(line, p) {
                 return Place::At(p);
@@ -46,31 +47,18 @@ pub fn text_member(line: &[u8], at: usize, name: &[u8]) -> Place
     }
 }
 
-// The number that the last member with this name has.
-fn number_member(line: &[u8], at: usize, name: &[u8]) -> Found
-    ensures { λ r. ⌜ r ≡ spec.foundNumber (bind (spec.memberOf (now (line .entry)) at (now (name .entry))) rule.asNumber) ⌝ }
+// The string that the last member with this name has, of the object at this place.
+pub fn text_member(line: &[u8], at: usize, name: &[u8]) -> Place
+    ensures { λ r. ⌜ r ≡ spec.textPlace (bind (spec.memberOf (now (line .entry)) at (now (name .entry))) rule.asText) ⌝ }
 {
-    match member(line, at, name) {
-        Place::At(p) => number_value(line, p),
-        Place::Nowhere => Found::Absent,
-    }
-}
-
-// The bool that the last member with this name has.
-fn bool_member(line: &[u8], at: usize, name: &[u8]) -> Truth
-    ensures { λ r. ⌜ r ≡ spec.foundBool (bind (spec.memberOf (now (line .entry)) at (now (name .entry))) rule.asBool) ⌝ }
-{
-    match member(line, at, name) {
-        Place::At(p) => truth(line, p),
-        Place::Nowhere => Truth::Unknown,
-    }
+    text_at(line, member(line, at, name))
 }
 
 // "`password` must be absent or a string."
-fn password_at(line: &[u8], at: usize) -> PasswordRead
-    ensures { λ r. ⌜ r ≡ spec.passwordAnswer (rule.passwordOf (spec.memberOf (now (line .entry)) at (ascii "password"))) ⌝ }
+fn password_at(line: &[u8], at: Place) -> PasswordRead
+    ensures { λ r. ⌜ r ≡ members.passwordFrom (now (line .entry)) at ⌝ }
 {
-    match member(line, at, b"password") {
+    match at {
         Place::At(p) => {
             if is_text(line, p) {
                 return PasswordRead::Password(Place::At(p));
@@ -81,33 +69,74 @@ fn password_at(line: &[u8], at: usize) -> PasswordRead
     }
 }
 
-// The name, and under allow its password and flag, of the object at this place.
-fn user_at(line: &[u8], at: usize, allow: bool) -> UserRead
-    ensures { λ r. ⌜ r ≡ spec.userAnswer (spec.userHere allow (now (line .entry)) at) ⌝ }
+// The bool at a place, if one stands there.
+fn truth_at(line: &[u8], at: Place) -> Truth
+    ensures { λ r. ⌜ r ≡ members.truthFrom (now (line .entry)) at ⌝ }
 {
-    let Place::At(name) = text_member(line, at, b"user") else {
+    match at {
+        Place::At(p) => truth(line, p),
+        Place::Nowhere => Truth::Unknown,
+    }
+}
+
+// The number at a place, if one stands there.
+fn number_at(line: &[u8], at: Place) -> Found
+    ensures { λ r. ⌜ r ≡ members.numberFrom (now (line .entry)) at ⌝ }
+{
+    match at {
+        Place::At(p) => number_value(line, p),
+        Place::Nowhere => Found::Absent,
+    }
+}
+
+// The name, and under allow its password and flag.
+fn user_at(line: &[u8], places: MemberPlaces, allow: bool) -> UserRead
+    ensures { λ r. ⌜ r ≡ members.userListed allow (now (line .entry)) places ⌝ }
+{
+    let user = places.user;
+    let Place::At(name) = text_at(line, user) else {
         return UserRead::User(User::Anyone);
     };
     if !allow {
         return UserRead::User(User::Named(name, Place::Nowhere, false));
     }
-    let PasswordRead::Password(password) = password_at(line, at) else {
+    let password = places.password;
+    let PasswordRead::Password(secret) = password_at(line, password) else {
         return UserRead::Bad;
     };
-    match bool_member(line, at, b"superuser") {
-        Truth::Holds(flag) => UserRead::User(User::Named(name, password, flag)),
-        Truth::Unknown => UserRead::User(User::Named(name, password, false)),
+    let superuser = places.superuser;
+    match truth_at(line, superuser) {
+        Truth::Holds(flag) => UserRead::User(User::Named(name, secret, flag)),
+        Truth::Unknown => UserRead::User(User::Named(name, secret, false)),
     }
 }
 
 // "`protocol` (number modulo 256)."
-fn protocol_at(line: &[u8], at: usize) -> Protocol
-    ensures { λ r. ⌜ r ≡ spec.protocolHere (now (line .entry)) at ⌝ }
+fn protocol_at(line: &[u8], at: Place) -> Protocol
+    ensures { λ r. ⌜ r ≡ members.protocolFrom (members.numberFrom (now (line .entry)) at) ⌝ }
 {
-    match number_member(line, at, b"protocol") {
+    match number_at(line, at) {
         Found::Is(n) => Protocol::Is((n % 256) as u8),
         Found::Absent => Protocol::Any,
     }
+}
+
+// The users, by the members of their object.
+pub fn users_of(line: &[u8], places: MemberPlaces, allow: bool) -> UsersRead
+    ensures { λ r. ⌜ r ≡ members.usersListed allow (now (line .entry)) places ⌝ }
+{
+    let UserRead::User(user) = user_at(line, places, allow) else {
+        return UsersRead::Bad;
+    };
+    let clientid = places.clientid;
+    let ipaddr = places.ipaddr;
+    let protocol = places.protocol;
+    UsersRead::Users(Users {
+        user,
+        clientid: text_at(line, clientid),
+        ipaddr: text_at(line, ipaddr),
+        protocol: protocol_at(line, protocol),
+    })
 }
 
 // The users that the value at this place lists: `all`, or an object.
@@ -136,13 +165,13 @@ fn listed_users(line: &[u8], at: usize, allow: bool) -> UsersRead
     let Place::At(_) = json::access::skip_value(line, at) else {
         return UsersRead::Bad;
     };
-    let UserRead::User(user) = user_at(line, at, allow) else {
-        return UsersRead::Bad;
+    let places = MemberPlaces {
+        user: member(line, at, b"user"),
+        password: member(line, at, b"password"),
+        superuser: member(line, at, b"superuser"),
+        clientid: member(line, at, b"clientid"),
+        ipaddr: member(line, at, b"ipaddr"),
+        protocol: member(line, at, b"protocol"),
     };
-    UsersRead::Users(Users {
-        user,
-        clientid: text_member(line, at, b"clientid"),
-        ipaddr: text_member(line, at, b"ipaddr"),
-        protocol: protocol_at(line, at),
-    })
+    users_of(line, places, allow)
 }

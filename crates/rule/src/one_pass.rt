@@ -2,6 +2,8 @@
 // not is left to the caller, which reads the line step by step; so nothing here refuses a line.
 use crate::Control;
 use crate::ControlRead;
+use crate::MemberPlaces;
+use crate::MembersPassed;
 use crate::Refusal;
 use crate::Rule;
 use crate::RuleRead;
@@ -10,9 +12,11 @@ use crate::TOPICS;
 use crate::Topic;
 use crate::Topics;
 use crate::Users;
+use crate::UsersPassed;
 use crate::UsersRead;
 use crate::Word;
 use crate::listed::users_at;
+use crate::listed::users_of;
 use crate::topic_list::is_template;
 use crate::topic_list::topic_at;
 use crate::words::control_of;
@@ -27,10 +31,13 @@ use json::values::separator;
 use json::values::skip_blanks;
 use json::values::value;
 ghost use mathlib.Core.Path.{_≡_};
-ghost use mathlib.Core.Bool.{_||_};
+ghost use mathlib.Core.Bool.{_||_, cond};
 ghost use Rattle.topic.specs.Topic.{validFilter};
 ghost use Rattle.rule.specs.Rule as rule;
 ghost use Rattle.rule.specs.OnePass as spec;
+ghost use Rattle.rule.specs.Members as members;
+ghost use Rattle.text.specs.Text.{same};
+ghost use Rattle.json.specs.declared.Place.the-variants.{At};
 
 // Is the text a template, or a valid filter?
 fn is_topic(text: &[u8]) -> bool
@@ -146,20 +153,129 @@ fn from_control(line: &[u8], allow: bool, users: Users, at: usize) -> RuleRead
     }
 }
 
+// A member's place, by its name: that of the value `p`, if this is the name.
+fn noted(text: &[u8], name: &[u8], p: usize, before: Place) -> Place
+    ensures { λ r. ⌜ r ≡ cond (same (now (text .entry)) (now (name .entry))) (At p) before ⌝ }
+{
+    if text::same(text, name) {
+        return Place::At(p);
+    }
+    before
+}
+
+// The members' places with those of one member more.
+fn with_member(text: &[u8], p: usize, found: MemberPlaces) -> MemberPlaces
+    ensures { λ r. ⌜ r ≡ members.noted (now (text .entry)) p found ⌝ }
+{
+    let user = found.user;
+    let password = found.password;
+    let superuser = found.superuser;
+    let clientid = found.clientid;
+    let ipaddr = found.ipaddr;
+    let protocol = found.protocol;
+    MemberPlaces {
+        user: noted(text, b"user", p, user),
+        password: noted(text, b"password", p, password),
+        superuser: noted(text, b"superuser", p, superuser),
+        clientid: noted(text, b"clientid", p, clientid),
+        ipaddr: noted(text, b"ipaddr", p, ipaddr),
+        protocol: noted(text, b"protocol", p, protocol),
+    }
+}
+
+// The value behind a member's name that ends before this place.
+fn value_behind(line: &[u8], at: usize) -> Place
+    ensures { λ r. ⌜ r ≡ members.valueBehind (now (line .entry)) at ⌝ }
+{
+    let p = skip_blanks(line, at);
+    if is_at(line, p, b':') {
+        return Place::At(skip_blanks(line, p + 1));
+    }
+    Place::Nowhere
+}
+
+// The members of the object at this place, if their names are plain.
+fn members_end(line: &[u8], at: usize) -> MembersPassed
+    ensures { λ r. ⌜ members.WhereMembers r (members.MembersTo (now (line .entry)) at) ⌝ }
+{
+    if !is_at(line, at, b'{') {
+        return MembersPassed::Unread;
+    }
+    let mut found = MemberPlaces {
+        user: Place::Nowhere,
+        password: Place::Nowhere,
+        superuser: Place::Nowhere,
+        clientid: Place::Nowhere,
+        ipaddr: Place::Nowhere,
+        protocol: Place::Nowhere,
+    };
+    let mut i = skip_blanks(line, at + 1);
+    while i < line.len() {
+        let Place::At(end) = plain_text(line, i) else {
+            return MembersPassed::Unread;
+        };
+        let Place::At(p) = value_behind(line, end + 1) else {
+            return MembersPassed::Unread;
+        };
+        found = with_member(&line[i + 1..end], p, found);
+        let Step::Next(c) = value(
+            Cursor {
+                at: p,
+                longest: end - (i + 1),
+            },
+            line,
+            6,
+        ) else {
+            return MembersPassed::Unread;
+        };
+        if TEXT < c.longest {
+            return MembersPassed::Unread;
+        }
+        match separator(line, c.at, b'}') {
+            Separator::Close(next) => {
+                return MembersPassed::Places(found, next);
+            }
+            Separator::Comma(next) => {
+                i = next;
+            }
+            Separator::Neither => {
+                return MembersPassed::Unread;
+            }
+        }
+    }
+    MembersPassed::Unread
+}
+
+// The users at this place, and the place behind them.
+fn users_end(line: &[u8], allow: bool, at: usize) -> UsersPassed
+    ensures { λ r. ⌜ members.WhereUsers r (members.UsersTo (now (line .entry)) allow at) ⌝ }
+{
+    if let MembersPassed::Places(places, end) = members_end(line, at) {
+        if let UsersRead::Users(users) = users_of(line, places, allow) {
+            return UsersPassed::Users(users, end);
+        }
+        return UsersPassed::Unread;
+    }
+    let Step::Next(c) = value(Cursor { at, longest: 0 }, line, 7) else {
+        return UsersPassed::Unread;
+    };
+    if TEXT < c.longest {
+        return UsersPassed::Unread;
+    }
+    let UsersRead::Users(users) = users_at(line, at, allow) else {
+        return UsersPassed::Unread;
+    };
+    UsersPassed::Users(users, c.at)
+}
+
 // The rule, from its users on.
 fn from_users(line: &[u8], allow: bool, at: usize) -> RuleRead
     ensures { λ r. ⌜ spec.WhereRule r (spec.FromUsers (now (line .entry)) allow at) ⌝ }
 {
-    let Step::Next(c) = value(Cursor { at, longest: 0 }, line, 7) else {
+    let UsersPassed::Users(users, end) = users_end(line, allow, at) else {
         return RuleRead::Refused(Refusal::NotARule);
     };
-    if TEXT < c.longest {
-        return RuleRead::Refused(Refusal::NotARule);
-    }
-    let UsersRead::Users(users) = users_at(line, at, allow) else {
-        return RuleRead::Refused(Refusal::NotARule);
-    };
-    match separator(line, c.at, b']') {
+    match separator(line, end, b']') {
         Separator::Comma(next) => from_control(line, allow, users, next),
         Separator::Close(next) => {
             if skip_blanks(line, next) != line.len() {

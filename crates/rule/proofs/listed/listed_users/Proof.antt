@@ -1,7 +1,9 @@
--- Each return has the members that led there. Assumes nothing.
-use mathlib.Core.Path.{refl, sym, _∙_}
+-- By the object's members. Assumes nothing.
+use mathlib.Core.Path.{_≡_, sym, _∙_}
 use denote.Ref.{now}
-use Rattle.rule.proofs.MemberLaws.{usersFrom, users-absent, users-by}
+use Rattle.rule.specs.Members.{placesAt}
+use Rattle.rule.specs.declared.MemberPlaces.{MemberPlaces}
+use Rattle.rule.proofs.MemberLaws.{users-absent, users-listed}
 use borrow.Author.Needs.{needs}
 use Rattle.rule.proofs.listed.listed_users.Statement.{statement}
 use Rattle.rule.proofs.listed.listed_users.Tie as tie
@@ -18,51 +20,63 @@ enum-told-2 c = search needs
 returns : tie.Need-returns
 returns c =
     let a = c .before .before .before .before .args in
-    let line = now (a .line) in
-    sym (users-absent (a .allow) line (a .at) (sym (c .before .before .skip-value .ensures) ∙ c .enum-told2 .given .1))
+    sym (users-absent (a .allow) (now (a .line)) (a .at) (sym (c .before .before .skip-value .ensures) ∙ c .enum-told2 .given .1))
 
-user-at-requires : tie.Need-user-at-requires
-user-at-requires c κs = search needs
+slice-aggregate-member : tie.Need-slice-aggregate-member
+slice-aggregate-member c = search needs
 
-enum-known-user : tie.Need-enum-known-user
-enum-known-user c = search needs
+member-requires : tie.Need-member-requires
+member-requires c κs = search needs
 
-enum-told-3 : tie.Need-enum-told-3
-enum-told-3 c = search needs
+slice-aggregate-member-2 : tie.Need-slice-aggregate-member-2
+slice-aggregate-member-2 c = search needs
+
+member-requires-2 : tie.Need-member-requires-2
+member-requires-2 c κs = search needs
+
+slice-aggregate-member-3 : tie.Need-slice-aggregate-member-3
+slice-aggregate-member-3 c = search needs
+
+member-requires-3 : tie.Need-member-requires-3
+member-requires-3 c κs = search needs
+
+slice-aggregate-member-4 : tie.Need-slice-aggregate-member-4
+slice-aggregate-member-4 c = search needs
+
+member-requires-4 : tie.Need-member-requires-4
+member-requires-4 c κs = search needs
+
+slice-aggregate-member-5 : tie.Need-slice-aggregate-member-5
+slice-aggregate-member-5 c = search needs
+
+member-requires-5 : tie.Need-member-requires-5
+member-requires-5 c κs = search needs
+
+slice-aggregate-member-6 : tie.Need-slice-aggregate-member-6
+slice-aggregate-member-6 c = search needs
+
+member-requires-6 : tie.Need-member-requires-6
+member-requires-6 c κs = search needs
+
+users-of-requires : tie.Need-users-of-requires
+users-of-requires c κs = search needs
 
 returns-2 : tie.Need-returns-2
-unfolding usersFrom
+unfolding placesAt
 returns-2 c =
-    let a = c .before .before .before .before .before .before .before .args in
-    let line = now (a .line) in
-    sym (users-by (a .allow) line (a .at)
-    (sym (c .before .before .before .before .before .skip-value .ensures) ∙ c .before .before .before .enum-told .given .1)
-    (sym (c .before .before .user-at .ensures) ∙ c .enum-told3 .given .1) refl refl refl)
-
-slice-aggregate-text-member : tie.Need-slice-aggregate-text-member
-slice-aggregate-text-member c = search needs
-
-text-member-requires : tie.Need-text-member-requires
-text-member-requires c κs = search needs
-
-slice-aggregate-text-member-2 : tie.Need-slice-aggregate-text-member-2
-slice-aggregate-text-member-2 c = search needs
-
-text-member-requires-2 : tie.Need-text-member-requires-2
-text-member-requires-2 c κs = search needs
-
-protocol-at-requires : tie.Need-protocol-at-requires
-protocol-at-requires c κs = search needs
-
-returns-3 : tie.Need-returns-3
-unfolding usersFrom
-returns-3 c =
-    let a = c .before .before .before .before .before .before .before .before .before .before .before .before .before .args in
-    let line = now (a .line) in
-    sym (users-by (a .allow) line (a .at)
-    (sym (c .before .before .before .before .before .before .before .before .before .before .before .skip-value .ensures) ∙ c .before .before .before .before .before .before .before .before .before .enum-told .given .1)
-    (sym (c .before .before .before .before .before .before .before .before .user-at .ensures) ∙ c .before .before .before .before .before .before .user .given .1)
-    (sym (c .before .before .before .text-member .ensures)) (sym (c .before .text-member2 .ensures)) (sym (c .protocol-at .ensures)))
+    let a = c .before .before .before .before .before .before .before .before .before .before .before .before .before .before .before .before .before .args in
+    c .users-of .ensures
+    ∙ sym
+    (users-listed (a .allow) (now (a .line)) (a .at) (sym (c .before .before .before .before .before .before .before .before .before .before .before .before .before .before .before .skip-value .ensures) ∙ c .before .before .before .before .before .before .before .before .before .before .before .before .before .enum-told .given .1)
+    (λ i.
+    record {
+      user = c .before .before .before .before .before .before .before .before .before .before .before .member .ensures i;
+      password = c .before .before .before .before .before .before .before .before .before .member2 .ensures i;
+      superuser = c .before .before .before .before .before .before .before .member3 .ensures i;
+      clientid = c .before .before .before .before .before .member4 .ensures i;
+      ipaddr = c .before .before .before .member5 .ensures i;
+      protocol = c .before .member6 .ensures i;
+    }))
 
 pub listed-users-spec : {M : Type 1} → statement M
 listed-users-spec =
@@ -72,13 +86,17 @@ listed-users-spec =
     enum-told
     enum-told-2
     returns
-    user-at-requires
-    enum-known-user
-    enum-told-3
-    returns-2
-    slice-aggregate-text-member
-    text-member-requires
-    slice-aggregate-text-member-2
-    text-member-requires-2
-    protocol-at-requires
-    returns-3)
+    slice-aggregate-member
+    member-requires
+    slice-aggregate-member-2
+    member-requires-2
+    slice-aggregate-member-3
+    member-requires-3
+    slice-aggregate-member-4
+    member-requires-4
+    slice-aggregate-member-5
+    member-requires-5
+    slice-aggregate-member-6
+    member-requires-6
+    users-of-requires
+    returns-2)

@@ -1,55 +1,37 @@
--- Each return has the tests that led there: the member's place, and the kind of its value. Assumes nothing.
-use mathlib.Core.Path.{sym, _∙_}
+-- By the place, and the kind of the value there. Assumes nothing.
+use mathlib.Core.Path.{sym, ap, _∙_}
 use denote.Ref.{now}
-use Rattle.text.specs.Ascii.{ascii}
-use Rattle.rule.proofs.MemberLaws.{passwordFrom, password-by, password-here}
+use Rattle.rule.specs.Members.{passwordFrom}
+use Rattle.rule.proofs.MemberLaws.{password-here}
 use borrow.Author.Needs.{needs}
 use Rattle.rule.proofs.listed.password_at.Statement.{statement}
 use Rattle.rule.proofs.listed.password_at.Tie as tie
 
-slice-aggregate-member : tie.Need-slice-aggregate-member
-slice-aggregate-member c = search needs
-
-member-requires : tie.Need-member-requires
-member-requires c κs = search needs
-
-enum-known-p : tie.Need-enum-known-p
-enum-known-p c = search needs
+enum-known-at : tie.Need-enum-known-at
+enum-known-at c = search needs
 
 is-text-requires : tie.Need-is-text-requires
 is-text-requires c κs = search needs
 
 returns : tie.Need-returns
 returns c =
-    let a = c .before .before .before .before .before .before .before .before .args in
-    let line = now (a .line) in
-    sym (password-by line (ascii "password") (a .at) (sym (c .before .before .before .before .before .member .ensures) ∙ c .before .before .before .p .given .1) ∙ password-here line _ (sym (c .before .is-text .ensures) ∙ c .if1 .taken))
+    let line = now (c .before .before .before .before .before .before .args .line) in
+    sym (ap (passwordFrom line) (c .before .before .before .at .given .1) ∙ password-here line _ (sym (c .before .is-text .ensures) ∙ c .if1 .taken))
 
 enum-told : tie.Need-enum-told
 enum-told c = search needs
 
 returns-2 : tie.Need-returns-2
 returns-2 c =
-    let a = c .before .before .before .before .before .before .before .before .args in
-    let line = now (a .line) in
-    sym (password-by line (ascii "password") (a .at) (sym (c .before .before .before .before .before .member .ensures) ∙ c .before .before .before .p .given .1) ∙ password-here line _ (sym (c .before .is-text .ensures) ∙ c .if1 .left))
+    let line = now (c .before .before .before .before .before .before .args .line) in
+    sym (ap (passwordFrom line) (c .before .before .before .at .given .1) ∙ password-here line _ (sym (c .before .is-text .ensures) ∙ c .if1 .left))
 
 returns-3 : tie.Need-returns-3
 unfolding passwordFrom
 returns-3 c =
-    let a = c .before .before .before .before .before .args in
-    let line = now (a .line) in
-    sym (password-by line (ascii "password") (a .at) (sym (c .before .before .member .ensures) ∙ c .enum-told .given .1))
+    let line = now (c .before .before .before .args .line) in
+    sym (ap (passwordFrom line) (c .enum-told .given .1))
 
 pub password-at-spec : {M : Type 1} → statement M
 password-at-spec =
-    tie.close
-    (tie.spec
-    slice-aggregate-member
-    member-requires
-    enum-known-p
-    is-text-requires
-    returns
-    enum-told
-    returns-2
-    returns-3)
+    tie.close (tie.spec enum-known-at is-text-requires returns enum-told returns-2 returns-3)
