@@ -1,17 +1,19 @@
 -- Laws of a rule's topics: a topic by its place is the topic of the tree. Assumes nothing.
-use Prim.Native.Nat.{ℕ, zero, suc, _-_, _≤_, _<_}
+use Prim.Native.Nat.{ℕ, zero, suc, _+_, _-_, _≤_, _<_}
 use native.Mathlib.Omega.{arith}
 use mathlib.Core.Path.{_≡_, refl, sym, ap, subst, _∙_}
 use mathlib.Core.Bool.{Bool, true, false, _&&_, _||_, cond}
 use mathlib.Core.List.{List, [], _∷_}
 use mathlib.Core.Option.{Option, none, some, bind, Option·map}
 use lib.Dec.{eqb, ltb, leb}
-use lib.ListN.{length, take, length-take}
-use borrow.Author.Tests.{eqb-true, le-ltb, lt-ltb, leb-true, leb-false}
+use native.Mathlib.Numerals.{add-one}
+use lib.ListN.{length, getD, take, drop, length-take, length-drop, drop-of-length-le}
+use lib.Seq.{drop-cons, length-take-le}
+use borrow.Author.Tests.{ne-eqb, lt-leb, eqb-true, le-ltb, lt-ltb, leb-true, leb-false}
 use denote.Enum.Declared.{tagOf}
 use types.Run.{OneOf, miss}
 use Rattle.text.specs.Ascii.{ascii}
-use Rattle.text.specs.Text.{written}
+use Rattle.text.specs.Text.{begins, contains, written}
 use Rattle.text.proofs.Laws.{written-take, isnt}
 use Rattle.topic.specs.Topic.{validFilter}
 use Rattle.json.specs.Utf8.{byteAt, between}
@@ -25,6 +27,7 @@ use Rattle.json.specs.declared.Place.{Place}
 use Rattle.json.specs.declared.Place.the-variants.{At, Nowhere}
 use Rattle.json.proofs.ValueLaws.{All}
 use Rattle.json.proofs.AccessSteps.{kind-opens}
+use Rattle.json.proofs.PlainLaws.{Plain}
 use Rattle.rule.specs.Rule as spec
 use Rattle.rule.specs.Rule.{Located, Value, member-named, asText, asObject, isTemplate, topicOf}
 use Rattle.rule.specs.Limits.{textLimit}
@@ -58,6 +61,22 @@ told before after (some d) n e q = by (leb (length (d .text)) (length before)) r
         let l : length (take n after) ≡ n = ap length w ∙ m in
         record { string = d; is = refl; front = w; long = l; fits = omega arith; room = omega (arith, length-take n after) }
     by false f h = let z : _≡_ {A = ℕ} 0 1 = cc in absurd (omega arith)
+
+-- and so does a plain one, in the line
+pub plain-told : (line : List ℕ) (at : ℕ) {end : ℕ} → Plain line at end → end - (at + 1) ≤ textLimit → Told (stringAt line at) (drop (at + 1) line) (end - (at + 1)) textLimit
+plain-told line at {end} p h =
+    let room : end - (at + 1) ≤ length (drop (at + 1) line) = omega (arith, p .within, length-drop (at + 1) line) in
+    record { string = _; is = p .string; front = refl; long = length-take-le (end - (at + 1)) (drop (at + 1) line) room; fits = h; room = room }
+
+-- a longer one is no topic
+plain-over : (line : List ℕ) (at : ℕ) {end : ℕ} → Plain line at end → textLimit < end - (at + 1) → copied textLimit (stringAt line at) ≡ TooLong
+unfolding copied
+plain-over line at {end} p h =
+    ap (copied textLimit) (p .string)
+    ∙ ap (λ (b : Bool). cond b (Length (length (take (end - (at + 1)) (drop (at + 1) line)))) TooLong) (lt-leb (length (take (end - (at + 1)) (drop (at + 1) line))) textLimit long)
+  where
+    long : textLimit < length (take (end - (at + 1)) (drop (at + 1) line))
+    long = omega (arith, p .within, length-drop (at + 1) line, length-take-le (end - (at + 1)) (drop (at + 1) line) (omega (arith, p .within, length-drop (at + 1) line)))
 
 -- the topic of a string
 unfoldable stringOf : ℕ → Option Decoded → Topic
@@ -174,6 +193,22 @@ module _ (line : List ℕ) (at : ℕ) where
   pub eq-none : copied textLimit (stringAt line at) ≡ NoText → eqTopic line at ≡ BadTopic
   unfolding Unfit
   eq-none e = eq-of line at ∙ eq-unfit (stringAt line at) (unfit e tt)
+
+pub plain-string-over : (line : List ℕ) (at : ℕ) {end : ℕ} → Plain line at end → textLimit < end - (at + 1) → stringTopic line at ≡ BadTopic
+plain-string-over line at p h = string-long line at (plain-over line at p h)
+
+pub plain-eq-over : (line : List ℕ) (at : ℕ) {end : ℕ} → Plain line at end → textLimit < end - (at + 1) → eqTopic line at ≡ BadTopic
+plain-eq-over line at p h = eq-long line at (plain-over line at p h)
+
+-- ---- templates
+
+pub template-onward : (t : List ℕ) (i : ℕ) → i < length t → (getD t i 0 ≡ 0x25 → ⊥) → isTemplate (drop i t) ≡ isTemplate (drop (i + 1) t)
+unfolding isTemplate contains begins
+template-onward t i h n = rw (add-one, drop-cons t i 0 h, ne-eqb 0x25 (getD t i 0) (λ e. n (sym e)))
+
+pub template-end : (t : List ℕ) (i : ℕ) → length t ≤ i → isTemplate (drop i t) ≡ false
+unfolding isTemplate contains begins
+template-end t i h = rw (drop-of-length-le t {i = i} h)
 
 -- ---- the topic of a value, by its kind
 

@@ -39,6 +39,11 @@ ghost use Rattle.rule.specs.Members as members;
 ghost use Rattle.text.specs.Text.{same};
 ghost use Rattle.json.specs.declared.Place.the-variants.{At};
 
+// How many brackets may be open inside the line's array, and inside the users' object or the topics' array.
+const IN_LINE: usize = 7;
+
+const IN_PART: usize = 6;
+
 // Is the text a template, or a valid filter?
 fn is_topic(text: &[u8]) -> bool
     ensures { λ r. ⌜ r ≡ (rule.isTemplate (now (text .entry)) || validFilter (now (text .entry))) ⌝ }
@@ -62,7 +67,7 @@ fn topic_end(line: &[u8], at: usize) -> Place
         }
         return Place::Nowhere;
     }
-    match value(Cursor { at, longest: 0 }, line, 6) {
+    match value(Cursor { at, longest: 0 }, line, IN_PART) {
         Step::Bad => Place::Nowhere,
         Step::Next(c) => {
             if TEXT < c.longest {
@@ -224,7 +229,7 @@ fn members_end(line: &[u8], at: usize) -> MembersPassed
                 longest: end - (i + 1),
             },
             line,
-            6,
+            IN_PART,
         ) else {
             return MembersPassed::Unread;
         };
@@ -256,7 +261,7 @@ fn users_end(line: &[u8], allow: bool, at: usize) -> UsersPassed
         }
         return UsersPassed::Unread;
     }
-    let Step::Next(c) = value(Cursor { at, longest: 0 }, line, 7) else {
+    let Step::Next(c) = value(Cursor { at, longest: 0 }, line, IN_LINE) else {
         return UsersPassed::Unread;
     };
     if TEXT < c.longest {

@@ -8,14 +8,28 @@ use json::Place;
 use json::access::first_element;
 use json::access::kind_at;
 use json::access::next_item;
+use json::access::plain_text;
 use json::strings::decode;
 ghost use mathlib.Core.Path.{_≡_};
 ghost use mathlib.Core.Option.{bind};
 ghost use Rattle.rule.specs.Rule as rule;
 ghost use Rattle.rule.specs.Places as spec;
 
-// "A text with `%u` or `%c` is a template."
+// "A text with `%u` or `%c` is a template." Most texts have no `%` at all.
 pub fn is_template(text: &[u8]) -> bool
+    ensures { λ r. ⌜ r ≡ rule.isTemplate (now (text .entry)) ⌝ }
+{
+    let mut i = 0;
+    while i < text.len() {
+        if text[i] == b'%' {
+            return has_mark(text);
+        }
+        i += 1;
+    }
+    false
+}
+
+fn has_mark(text: &[u8]) -> bool
     ensures { λ r. ⌜ r ≡ rule.isTemplate (now (text .entry)) ⌝ }
 {
     if text::contains(text, b"%u") {
@@ -24,8 +38,26 @@ pub fn is_template(text: &[u8]) -> bool
     text::contains(text, b"%c")
 }
 
-// The topic that a string is: a template, or a valid filter.
+// The topic that a string is: a template, or a valid filter. A plain one is tested as it stands.
 fn string_topic(line: &[u8], at: usize) -> Topic
+    ensures { λ r. ⌜ r ≡ spec.stringTopic (now (line .entry)) at ⌝ }
+{
+    let Place::At(end) = plain_text(line, at) else {
+        return decoded_topic(line, at);
+    };
+    if TEXT < end - (at + 1) {
+        return Topic::Bad;
+    }
+    if is_template(&line[at + 1..end]) {
+        return Topic::Template(at);
+    }
+    if topic::valid_filter(&line[at + 1..end]) {
+        return Topic::Filter(at);
+    }
+    Topic::Bad
+}
+
+fn decoded_topic(line: &[u8], at: usize) -> Topic
     ensures { λ r. ⌜ r ≡ spec.stringTopic (now (line .entry)) at ⌝ }
 {
     let mut text = [0u8; TEXT];
@@ -46,6 +78,21 @@ fn string_topic(line: &[u8], at: usize) -> Topic
 
 // The topic that a string under `eq` is.
 fn eq_topic(line: &[u8], at: usize) -> Topic
+    ensures { λ r. ⌜ r ≡ spec.eqTopic (now (line .entry)) at ⌝ }
+{
+    let Place::At(end) = plain_text(line, at) else {
+        return decoded_eq(line, at);
+    };
+    if TEXT < end - (at + 1) {
+        return Topic::Bad;
+    }
+    if is_template(&line[at + 1..end]) {
+        return Topic::EqTemplate(at);
+    }
+    Topic::Eq(at)
+}
+
+fn decoded_eq(line: &[u8], at: usize) -> Topic
     ensures { λ r. ⌜ r ≡ spec.eqTopic (now (line .entry)) at ⌝ }
 {
     let mut text = [0u8; TEXT];

@@ -1,89 +1,88 @@
--- Each return has the tests that led there: the string that was decoded, and what it is. Assumes nothing.
+-- A plain string is tested as it stands, another one decoded. Assumes nothing.
+use native.Mathlib.Omega.{arith}
 use mathlib.Core.Path.{sym, _∙_}
 use denote.Ref.{now}
-use Rattle.json.specs.Strings.{stringAt}
-use Rattle.rule.proofs.TopicLaws.{told, eq-by, eq-long, eq-none}
+use Rattle.json.proofs.PlainLaws.{Plain, plain-string}
+use Rattle.rule.proofs.TopicLaws.{plain-told, plain-eq-over, eq-by}
 use borrow.Author.Needs.{needs}
 use Rattle.rule.proofs.topic_list.eq_topic.Statement.{statement}
 use Rattle.rule.proofs.topic_list.eq_topic.Tie as tie
 
-slice-aggregate-decode : tie.Need-slice-aggregate-decode
-slice-aggregate-decode c = search needs
+-- the plain string that was found
+found : (c : tie.After-known-told) →
+    let a = c .before .before .before .before .before .args in
+    Plain (now (a .line)) (a .at) (c .before .end .given .0 .0)
+found c =
+    let a = c .before .before .before .before .before .args in
+    plain-string (now (a .line)) (a .at) (sym (c .before .before .before .plain-text .ensures) ∙ c .before .end .given .1)
 
-decode-requires : tie.Need-decode-requires
-decode-requires c κs = search needs
+plain-text-requires : tie.Need-plain-text-requires
+plain-text-requires c κs = search needs
 
-enum-known-n : tie.Need-enum-known-n
-enum-known-n c = search needs
-
-array-share-prefix-text : tie.Need-array-share-prefix-text
-array-share-prefix-text c =
-    let a = c .before .before .before .before .before .before .before .args in
-    let line = now (a .line) in
-    let d = c .before .before .before .before .decode in
-    let n = c .before .n .given in
-    (told _ _ (stringAt line (a .at)) _ (sym (d .ensures .0) ∙ n .1) (d .ensures .1)) .room
-
-slice-aggregate-is-template : tie.Need-slice-aggregate-is-template
-slice-aggregate-is-template c =
-    let a = c .before .before .before .before .before .before .before .before .args in
-    let line = now (a .line) in
-    let d = c .before .before .before .before .before .decode in
-    let n = c .before .before .n .given in
-    sym ((told _ _ (stringAt line (a .at)) _ (sym (d .ensures .0) ∙ n .1) (d .ensures .1)) .long)
-
-is-template-requires : tie.Need-is-template-requires
-is-template-requires c κs = search needs
-
-returns : tie.Need-returns
-returns c =
-    let a = c .before .before .before .before .before .before .before .before .before .before .args in
-    let line = now (a .line) in
-    let d = c .before .before .before .before .before .before .before .decode in
-    let n = c .before .before .before .before .n .given in
-    let h = told _ _ (stringAt line (a .at)) _ (sym (d .ensures .0) ∙ n .1) (d .ensures .1) in
-    sym (eq-by line (a .at) h (sym (c .before .is-template .ensures) ∙ c .if1 .taken))
+enum-known-end : tie.Need-enum-known-end
+enum-known-end c = search needs
 
 enum-told : tie.Need-enum-told
 enum-told c = search needs
 
-enum-told-2 : tie.Need-enum-told-2
-enum-told-2 c = search needs
+decoded-eq-requires : tie.Need-decoded-eq-requires
+decoded-eq-requires c κs = search needs
+
+returns : tie.Need-returns
+returns c = search needs
+
+add-if1 : tie.Need-add-if1
+add-if1 c = let p = found c in omega arith
+
+sub-if1 : tie.Need-sub-if1
+sub-if1 c = let p = found c in omega arith
 
 returns-2 : tie.Need-returns-2
 returns-2 c =
-    let a = c .before .before .before .before .before .before .before .before .before .before .args in
-    let line = now (a .line) in
-    let d = c .before .before .before .before .before .before .before .decode in
-    let n = c .before .before .before .before .n .given in
-    let h = told _ _ (stringAt line (a .at)) _ (sym (d .ensures .0) ∙ n .1) (d .ensures .1) in
-    sym (eq-by line (a .at) h (sym (c .before .is-template .ensures) ∙ c .if1 .left))
+    let a = c .before .before .before .before .before .before .args in
+    sym (plain-eq-over (now (a .line)) (a .at) (found (c .before)) (c .if1 .taken))
+
+add-is-template : tie.Need-add-is-template
+add-is-template c = let p = found (c .before) in omega arith
+
+sub-is-template : tie.Need-sub-is-template
+sub-is-template c = let p = found (c .before) in omega arith
+
+part-is-template-start : tie.Need-part-is-template-start
+part-is-template-start c = let p = found (c .before) in omega arith
+
+part-is-template-end : tie.Need-part-is-template-end
+part-is-template-end c = let p = found (c .before) in omega arith
+
+is-template-requires : tie.Need-is-template-requires
+is-template-requires c κs = search needs
 
 returns-3 : tie.Need-returns-3
 returns-3 c =
-    let a = c .before .before .before .before .before .before .args in
-    let line = now (a .line) in
-    sym (eq-long line (a .at) (sym (c .before .before .before .decode .ensures .0) ∙ c .enum-told .given .1))
+    let a = c .before .before .before .before .before .before .before .before .before .args in
+    sym (eq-by (now (a .line)) (a .at) (plain-told (now (a .line)) (a .at) (found (c .before .before .before .before)) (c .before .before .before .if1 .left)) (sym (c .before .is-template .ensures) ∙ c .if2 .taken))
 
 returns-4 : tie.Need-returns-4
 returns-4 c =
-    let a = c .before .before .before .before .before .before .args in
-    let line = now (a .line) in
-    sym (eq-none line (a .at) (sym (c .before .before .before .decode .ensures .0) ∙ c .enum-told2 .given .1))
+    let a = c .before .before .before .before .before .before .before .before .before .args in
+    sym (eq-by (now (a .line)) (a .at) (plain-told (now (a .line)) (a .at) (found (c .before .before .before .before)) (c .before .before .before .if1 .left)) (sym (c .before .is-template .ensures) ∙ c .if2 .left))
 
 pub eq-topic-spec : {M : Type 1} → statement M
 eq-topic-spec =
     tie.close
     (tie.spec
-    slice-aggregate-decode
-    decode-requires
-    enum-known-n
-    array-share-prefix-text
-    slice-aggregate-is-template
-    is-template-requires
-    returns
+    plain-text-requires
+    enum-known-end
     enum-told
-    enum-told-2
+    decoded-eq-requires
+    returns
+    add-if1
+    sub-if1
     returns-2
+    add-is-template
+    sub-is-template
+    part-is-template-start
+    part-is-template-end
+    is-template-requires
     returns-3
     returns-4)

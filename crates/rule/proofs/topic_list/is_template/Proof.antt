@@ -1,45 +1,57 @@
--- Each return has the tests that led there. Assumes nothing.
-use mathlib.Core.Path.{sym, ap, _∙_}
+-- The loop's invariant: the text from `i` on is a template if the whole is. The measure is what is left of the text. Assumes nothing.
+use Prim.Native.Nat.{_-_}
+use mathlib.Core.Path.{_≡_, refl, sym, _∙_}
+use lib.ListN.{length, drop}
 use denote.Ref.{now}
-use mathlib.Core.Bool.{_||_}
-use Rattle.text.specs.Ascii.{ascii}
-use Rattle.text.specs.Text.{contains}
 use Rattle.rule.specs.Rule.{isTemplate}
+use Rattle.rule.proofs.TopicLaws.{template-onward, template-end}
 use borrow.Author.Needs.{needs}
 use Rattle.rule.proofs.topic_list.is_template.Statement.{statement}
 use Rattle.rule.proofs.topic_list.is_template.Tie as tie
 
-slice-aggregate-contains : tie.Need-slice-aggregate-contains
-slice-aggregate-contains c = search needs
+abbrev Inv-loop : tie.InvT-loop
+Inv-loop text i₀ i = isTemplate (drop i text) ≡ isTemplate text
 
-contains-requires : tie.Need-contains-requires
-contains-requires c κs = search needs
+abbrev μ-loop : tie.MeasureT-loop
+μ-loop text i₀ i = length text - i
 
-returns : tie.Need-returns
-unfolding isTemplate
-returns c =
-    let a = c .before .before .before .before .args in
-    sym (ap (λ b. b || contains (ascii "%c") (now (a .text))) (sym (c .before .contains .ensures) ∙ c .if1 .taken))
+loop-holds : tie.Need-loop-holds Inv-loop μ-loop
+loop-holds c = refl
 
-slice-aggregate-contains-2 : tie.Need-slice-aggregate-contains-2
-slice-aggregate-contains-2 c = search needs
+shared-slice-read-if1 : tie.Need-shared-slice-read-if1 Inv-loop μ-loop
+shared-slice-read-if1 c = search needs
 
-contains-requires-2 : tie.Need-contains-requires-2
-contains-requires-2 c κs = search needs
+has-mark-requires : tie.Need-has-mark-requires Inv-loop μ-loop
+has-mark-requires c κs = search needs
 
-returns-2 : tie.Need-returns-2
-unfolding isTemplate
-returns-2 c =
-    let a = c .before .before .before .before .before .before .args in
-    c .contains2 .ensures ∙ sym (ap (λ b. b || contains (ascii "%c") (now (a .text))) (sym (c .before .before .before .contains .ensures) ∙ c .before .before .if1 .left))
+returns : tie.Need-returns Inv-loop μ-loop
+returns c = search needs
+
+add-i : tie.Need-add-i Inv-loop μ-loop
+add-i c = search needs
+
+loop-less : tie.Need-loop-less Inv-loop μ-loop
+loop-less c = search needs
+
+loop-again : tie.Need-loop-again Inv-loop μ-loop
+loop-again c =
+    let text = now (c .before .before .before .before .before .args .text) in
+    sym (template-onward text (c .before .before .before .loop .i) (c .before .before .loop-test .taken) (c .if1 .left)) ∙ c .before .before .before .loop .inv
+
+returns-2 : tie.Need-returns-2 Inv-loop μ-loop
+returns-2 c = sym (template-end (now (c .before .before .before .args .text)) (c .before .loop .i) (c .loop-test .left)) ∙ c .before .loop .inv
 
 pub is-template-spec : {M : Type 1} → statement M
 is-template-spec =
     tie.close
     (tie.spec
-    slice-aggregate-contains
-    contains-requires
+    Inv-loop
+    μ-loop
+    loop-holds
+    shared-slice-read-if1
+    has-mark-requires
     returns
-    slice-aggregate-contains-2
-    contains-requires-2
+    add-i
+    loop-less
+    loop-again
     returns-2)
