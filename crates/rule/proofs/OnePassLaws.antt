@@ -8,6 +8,9 @@ use mathlib.Core.Option.{Option, none, some, bind, Option·map}
 use lib.Dec.{leb}
 use borrow.Author.Tests.{le-ltb, leb-true, leb-false}
 use lib.ListN.{length, take, drop, length-take}
+use Rattle.text.specs.Ascii.{ascii}
+use Rattle.text.specs.Text.{same}
+use Rattle.text.proofs.Laws.{same-true}
 use Rattle.topic.specs.Topic.{validFilter}
 use Rattle.json.specs.Json.{Json, text, array, object, Elements, no-element, element, Members, no-member, member, Read, isAt, skipBlanks, textAt, nameAt, separatorAt, valueAt, depthLimit, longest, longestElement, longestMember}
 use Rattle.json.specs.Access.{count, countOf, checked, valueHere, stepped, behind}
@@ -40,7 +43,7 @@ use Rattle.json.proofs.ElementLaws as items
 use Rattle.json.proofs.ElementLaws.{line-read}
 use Rattle.rule.specs.Limits.{textLimit, topicsLimit}
 use Rattle.rule.specs.Rule as spec
-use Rattle.rule.specs.Rule.{Value, nth, isTemplate, asText, asArray, asObject, topicOf, topicsIn, topicsOf}
+use Rattle.rule.specs.Rule.{Value, nth, named, member-named, isTemplate, asText, asArray, asObject, topicOf, topicsIn, topicsOf}
 use Rattle.rule.specs.Places.{valueOf, usersAnswer, topicAnswer, isTopic, overTopics, tooMany, topicsHere, placeOf, wordOf, controlOfWord, controlHere, usersOfPlace, withTopics, withControl, withUsers, ruleBehind, withAccess, accessAt}
 use Rattle.rule.specs.OnePass.{WherePlace, TopicTo, TopicsTo, Tail, WhereRule, FromTopics, FromControl, FromUsers, IsRule}
 use Rattle.rule.proofs.RuleLaws.{isSome, topics-here, placed, parts-placed, read-valid}
@@ -240,6 +243,26 @@ next-member line {at} m q f = record { reads = items.members-more 6 line at (m .
 pub first-member : (line : List ℕ) (at : ℕ) {first end : ℕ} {rest : Members} → isAt line at 0x7b ≡ true → first ≡ skipBlanks line (at + 1) → MembersFrom line first rest end
     → MembersTo line at (placesIn rest noPlaces) end
 first-member line at {rest = rest} o f m = record { members = rest; reads = items.object-read 6 line at o f (m .reads); short = m .short; are = refl }
+
+-- a topic under `eq`, from its plain strings
+pub eq-read : (line : List ℕ) (at : ℕ) {name end p last next : ℕ} → isAt line at 0x7b ≡ true → name ≡ skipBlanks line (at + 1) → Plain line name end
+    → same (take (end - (name + 1)) (drop (name + 1) line)) (ascii "eq") ≡ true → valueBehind line (end + 1) ≡ At p → Plain line p last → last - (p + 1) ≤ textLimit
+    → separatorAt 0x7d line (last + 1) ≡ Close next → TopicTo line at next
+unfolding longest longestMember topicOf asObject member-named named bind asText
+eq-read line at {name} {end} {p} {last} o f n e b s h q =
+    record {
+      value = object (member name t p (text u) no-member);
+      topic = record { eq = true; text = record { at = p; text = u } };
+      reads = items.object-read 5 line at o f (items.members-last 5 line name (name-read line name n b) (plain-value 5 line p s) q);
+      short = omega (arith, ap length (same-true t (ascii "eq") e), length-take (last - (p + 1)) (drop (p + 1) line));
+      is = rw e;
+    }
+  where
+    t : List ℕ
+    t = take (end - (name + 1)) (drop (name + 1) line)
+
+    u : List ℕ
+    u = take (last - (p + 1)) (drop (p + 1) line)
 
 -- where members' places, and users, are answered
 pub members-answered : {r : MembersPassed} {m : MemberPlaces} {end : ℕ} (holds : MemberPlaces → ℕ → Type 0) → r ≡ Places m end → WhereMembers r holds → holds m end

@@ -54,6 +54,36 @@ fn is_topic(text: &[u8]) -> bool
     topic::valid_filter(text)
 }
 
+// The place behind an object at this place whose only member is a plain `eq`.
+fn eq_end(line: &[u8], at: usize) -> Place
+    ensures { λ r. ⌜ spec.WherePlace r (spec.TopicTo (now (line .entry)) at) ⌝ }
+{
+    if !is_at(line, at, b'{') {
+        return Place::Nowhere;
+    }
+    let name = skip_blanks(line, at + 1);
+    let Place::At(end) = plain_text(line, name) else {
+        return Place::Nowhere;
+    };
+    if !text::same(&line[name + 1..end], b"eq") {
+        return Place::Nowhere;
+    }
+    let Place::At(p) = value_behind(line, end + 1) else {
+        return Place::Nowhere;
+    };
+    let Place::At(last) = plain_text(line, p) else {
+        return Place::Nowhere;
+    };
+    if TEXT < last - (p + 1) {
+        return Place::Nowhere;
+    }
+    match separator(line, last + 1, b'}') {
+        Separator::Close(next) => Place::At(next),
+        Separator::Comma(_) => Place::Nowhere,
+        Separator::Neither => Place::Nowhere,
+    }
+}
+
 // The place behind the topic at this place.
 fn topic_end(line: &[u8], at: usize) -> Place
     ensures { λ r. ⌜ spec.WherePlace r (spec.TopicTo (now (line .entry)) at) ⌝ }
@@ -66,6 +96,9 @@ fn topic_end(line: &[u8], at: usize) -> Place
             return Place::At(end + 1);
         }
         return Place::Nowhere;
+    }
+    if let Place::At(end) = eq_end(line, at) {
+        return Place::At(end);
     }
     match value(Cursor { at, longest: 0 }, line, IN_PART) {
         Step::Bad => Place::Nowhere,

@@ -1,4 +1,4 @@
--- A plain string is tested as it stands; any other value is passed over, and is a topic or not. Assumes nothing.
+-- A plain string, and one under `eq`, is tested as it stands; any other value is passed over, and is a topic or not. Assumes nothing.
 use native.Mathlib.Omega.{arith}
 use mathlib.Core.Path.{sym, ap, _∙_}
 use denote.Ref.{now}
@@ -6,8 +6,9 @@ use Rattle.json.specs.Json.{longest}
 use Rattle.json.proofs.PlainLaws.{Plain, plain-string}
 use Rattle.json.proofs.ElementLaws.{stepped-some}
 use Rattle.rule.specs.Places.{isTopic}
+use Rattle.rule.specs.OnePass.{TopicTo}
 use Rattle.rule.proofs.TopicLaws.{good-topic}
-use Rattle.rule.proofs.OnePassLaws.{plain-topic, value-topic}
+use Rattle.rule.proofs.OnePassLaws.{answered, plain-topic, value-topic}
 use borrow.Author.Needs.{needs}
 use Rattle.rule.proofs.one_pass.topic_end.Statement.{statement}
 use Rattle.rule.proofs.one_pass.topic_end.Tie as tie
@@ -50,8 +51,8 @@ part-is-topic-end c = let p = found (c .before) in omega arith
 is-topic-requires : tie.Need-is-topic-requires
 is-topic-requires c κs = search needs
 
-add-t13 : tie.Need-add-t13
-add-t13 c = let p = found (c .before .before .before .before) in omega arith
+add-t14 : tie.Need-add-t14
+add-t14 c = let p = found (c .before .before .before .before) in omega arith
 
 returns-2 : tie.Need-returns-2
 returns-2 c =
@@ -64,35 +65,49 @@ returns-3 c = search needs
 enum-told : tie.Need-enum-told
 enum-told c = search needs
 
-value-requires : tie.Need-value-requires
-value-requires c κs = search needs
+eq-end-requires : tie.Need-eq-end-requires
+eq-end-requires c κs = search needs
+
+enum-known-end-2 : tie.Need-enum-known-end-2
+enum-known-end-2 c = search needs
+
+returns-4 : tie.Need-returns-4
+returns-4 c =
+    let a = c .before .before .before .before .before .before .before .before .args in
+    answered (TopicTo (now (a .line)) (a .at)) (c .before .end2 .given .1) (c .before .before .before .eq-end .ensures)
 
 enum-told-2 : tie.Need-enum-told-2
 enum-told-2 c = search needs
 
-enum-known-c : tie.Need-enum-known-c
-enum-known-c c = search needs
-
-returns-4 : tie.Need-returns-4
-returns-4 c = search needs
-
-topic-at-requires : tie.Need-topic-at-requires
-topic-at-requires c κs = search needs
+value-requires : tie.Need-value-requires
+value-requires c κs = search needs
 
 enum-told-3 : tie.Need-enum-told-3
 enum-told-3 c = search needs
 
+enum-known-c : tie.Need-enum-known-c
+enum-known-c c = search needs
+
 returns-5 : tie.Need-returns-5
 returns-5 c = search needs
+
+topic-at-requires : tie.Need-topic-at-requires
+topic-at-requires c κs = search needs
+
+enum-told-4 : tie.Need-enum-told-4
+enum-told-4 c = search needs
 
 returns-6 : tie.Need-returns-6
 returns-6 c = search needs
 
 returns-7 : tie.Need-returns-7
-returns-7 c =
-    let a = c .before .before .before .before .before .before .before .before .before .before .before .before .args in
+returns-7 c = search needs
+
+returns-8 : tie.Need-returns-8
+returns-8 c =
+    let a = c .before .before .before .before .before .before .before .before .before .before .before .before .before .before .before .args in
     let r = stepped-some longest 0 _ (sym (c .before .before .before .before .before .before .before .value .ensures) ∙ c .before .before .before .before .before .c .given .1) in
-    value-topic (now (a .line)) (a .at) (r .is) (omega (arith, r .long)) (ap isTopic (sym (c .before .topic-at .ensures)) ∙ good-topic (c .before .topic-at .result) (c .match3 .keys2))
+    value-topic (now (a .line)) (a .at) (r .is) (omega (arith, r .long)) (ap isTopic (sym (c .before .topic-at .ensures)) ∙ good-topic (c .before .topic-at .result) (c .match4 .keys2))
 
 pub topic-end-spec : {M : Type 1} → statement M
 topic-end-spec =
@@ -108,16 +123,20 @@ topic-end-spec =
     part-is-topic-start
     part-is-topic-end
     is-topic-requires
-    add-t13
+    add-t14
     returns-2
     returns-3
     enum-told
-    value-requires
-    enum-told-2
-    enum-known-c
+    eq-end-requires
+    enum-known-end-2
     returns-4
-    topic-at-requires
+    enum-told-2
+    value-requires
     enum-told-3
+    enum-known-c
     returns-5
+    topic-at-requires
+    enum-told-4
     returns-6
-    returns-7)
+    returns-7
+    returns-8)
