@@ -1,17 +1,17 @@
 -- Laws for readers that go over a line in one pass: elements one by one, an array from its elements, a line from its value. Assumes nothing.
 use Prim.Native.Nat.{ℕ, suc, _+_, _<_, max}
 use native.Mathlib.Omega.{arith}
-use mathlib.Core.Path.{_≡_, refl, sym, ap, _∙_}
+use mathlib.Core.Path.{_≡_, sym, ap, _∙_}
 use mathlib.Core.Bool.{Bool, true, false, cond}
 use mathlib.Core.List.{List}
 use mathlib.Core.Option.{Option, none, some, bind, Option·none-ne-some}
 use lib.Dec.{eqb}
-use lib.ListN.{length, drop}
+use lib.ListN.{length}
 use borrow.Author.Tests.{eqb-true, eq-eqb}
 use Rattle.text.proofs.Laws.{isnt}
 use Rattle.json.specs.Utf8.{byteAt, between}
-use Rattle.json.specs.Strings.{quote, stringFrom, stringAt}
-use Rattle.json.specs.Json.{Json, array, object, Elements, no-element, element, Members, no-member, member, Read, isAt, isBlank, skipBlanks, kindOf, textAt, readAs, separatorAt, elementAt, memberAt, nameAt, arrayAt, objectAt, valueAt, lineValue}
+use Rattle.json.specs.Strings.{quote, stringAt}
+use Rattle.json.specs.Json.{Json, array, object, Elements, no-element, element, Members, no-member, member, Read, isAt, isBlank, skipBlanks, kindOf, textAt, readAs, separatorAt, elementAt, memberAt, nameAt, valueAt, lineValue}
 use Rattle.json.specs.Access.{stepped, valueHere, bracketed}
 use Rattle.json.specs.declared.Cursor.{Cursor}
 use Rattle.json.specs.declared.Step.the-variants.{Next}

@@ -4,21 +4,20 @@ use native.Mathlib.Numerals.{add-one}
 use native.Mathlib.Omega.{arith}
 use mathlib.Core.Path.{_≡_, refl, sym, ap, _∙_}
 use mathlib.Core.Bool.{Bool, true, false, cond}
-use mathlib.Core.List.{List, [], _∷_, _++_, append-nil}
-use mathlib.Core.Option.{Option, none, some, bind}
+use mathlib.Core.List.{List, [], _∷_, append-nil}
+use mathlib.Core.Option.{Option, some, bind}
 use lib.Dec.{eqb}
 use borrow.Author.Tests.{eqb-true}
-use lib.ListN.{length, getD, take, drop, drop-of-length-le, length-drop}
+use lib.ListN.{length, getD, take, drop, drop-of-length-le}
 use lib.Seq.{drop-cons, drop-drop}
 use Rattle.json.specs.Utf8.{byteAt, between}
-use Rattle.json.specs.Strings.{quote, Decoded, isPlain, pieceOf, grown, stringFrom, stringAt}
+use Rattle.json.specs.Strings.{quote, Decoded, isPlain, pieceOf, stringFrom, stringAt}
 use Rattle.json.specs.Json.{text, isAt, kindOf, textAt, readAs, valueAt}
 use Rattle.json.specs.Plain.{plains, skipPlains, plainText}
-use Rattle.json.specs.declared.Place.{Place}
 use Rattle.json.specs.declared.Place.the-variants.{At, Nowhere}
-use Rattle.json.specs.declared.Piece.the-variants.{Closes, Raw}
+use Rattle.json.specs.declared.Piece.the-variants.{Closes}
 use Rattle.json.proofs.PieceLaws.{piece-by, plain-raw}
-use Rattle.json.proofs.StringLaws.{ahead, ahead-nothing, ahead-ahead, string-closes, string-raw, string-opens}
+use Rattle.json.proofs.StringLaws.{ahead, ahead-nothing, ahead-ahead, string-closes, string-raw}
 use Rattle.json.proofs.ScanLaws.{byte-here, at-within}
 use Rattle.json.proofs.Utf8Laws.{byte-first}
 use Rattle.json.proofs.ValueLaws.{valueAs, value-by}

@@ -1,6 +1,6 @@
 -- Strings that are their own decoded text: all their bytes are plain.
 use Prim.Native.Nat.{ℕ, suc, _+_}
-use mathlib.Core.Bool.{_&&_, cond}
+use mathlib.Core.Bool.{cond}
 use mathlib.Core.List.{List, [], _∷_}
 use lib.ListN.{drop}
 use Rattle.json.specs.Strings.{quote, isPlain}

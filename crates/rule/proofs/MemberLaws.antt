@@ -15,13 +15,12 @@ use Rattle.text.specs.Text.{same}
 use Rattle.text.proofs.Laws.{same-true}
 use Rattle.json.specs.Strings.{Decoded, stringAt}
 use Rattle.json.specs.Json.{Json, null, bool, number, text, array, object, Members, no-member, member, Read, textAt, readAs, depthLimit}
-use Rattle.json.specs.Access.{valueHere, kindAt, behind, lastNamed, namedIn, memberNamed, numberHere, truthOf, truthHere}
+use Rattle.json.specs.Access.{valueHere, kindAt, behind, lastNamed, namedIn, memberNamed, truthOf}
 use Rattle.json.specs.declared.Place.{Place}
 use Rattle.json.specs.declared.Place.the-variants.{At, Nowhere}
 use Rattle.json.specs.declared.Found.{Found}
 use Rattle.json.specs.declared.Found.the-variants.{Is as FoundIs, Absent}
 use Rattle.json.specs.declared.Truth.{Truth}
-use Rattle.json.specs.declared.Truth.the-variants.{Holds, Unknown}
 use Rattle.json.specs.declared.Kind.{Kind}
 use Rattle.json.specs.declared.Kind.the-variants.{Number, Text, Array, Object, Word as WordKind, Blank, Other as OtherKind}
 use Rattle.json.proofs.AccessSteps.{kindIs}

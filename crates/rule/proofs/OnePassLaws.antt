@@ -45,7 +45,7 @@ use Rattle.rule.specs.Limits.{textLimit, topicsLimit}
 use Rattle.rule.specs.Rule as spec
 use Rattle.rule.specs.Rule.{Value, nth, named, member-named, isTemplate, asText, asArray, asObject, topicOf, topicsIn, topicsOf}
 use Rattle.rule.specs.Places.{valueOf, usersAnswer, topicAnswer, isTopic, overTopics, tooMany, topicsHere, placeOf, wordOf, controlOfWord, controlHere, usersOfPlace, withTopics, withControl, withUsers, ruleBehind, withAccess, accessAt}
-use Rattle.rule.specs.OnePass.{WherePlace, TopicTo, TopicsTo, Tail, WhereRule, FromTopics, FromControl, FromUsers, IsRule}
+use Rattle.rule.specs.OnePass.{WherePlace, PartTo, TopicTo, TopicsTo, Tail, WhereRule, FromTopics, FromControl, FromUsers, IsRule}
 use Rattle.rule.proofs.RuleLaws.{isSome, topics-here, placed, parts-placed, read-valid}
 use Rattle.rule.specs.Members.{valueBehind, usersListed, placesIn, noPlaces, MembersTo, WhereMembers, UsersTo, WhereUsers}
 use Rattle.rule.specs.declared.MembersPassed.{MembersPassed}
@@ -64,6 +64,12 @@ pub value-there : (depth : ℕ) (line : List ℕ) (at : ℕ) {v : Json} {end : �
     → valueOf line at ≡ some (record { at = at; value = v })
 unfolding valueOf bind
 value-there depth line at h e = ap (λ (o : Option (Read Json)). bind o (λ r. some (record { at = at; value = r .value }))) (value-deeper depth depthLimit line at h e)
+
+-- the value that a step passes over
+pub part-read : (line : List ℕ) (at before : ℕ) {c : Cursor} → stepped longest before (valueAt 6 line at) ≡ Next c → c .longest ≤ textLimit → PartTo line at before (c .at)
+part-read line at before v h =
+    let r = items.stepped-some longest before (valueAt 6 line at) v in
+    record { value = r .value; reads = r .is; within = omega (arith, r .long); short = omega (arith, r .long) }
 
 -- ---- topics
 
@@ -210,16 +216,15 @@ pub record MemberAt (line : List ℕ) (at : ℕ) (name : List ℕ) (p end : ℕ)
   pub short-name : length name ≤ textLimit
   pub short : longest value ≤ textLimit
 
-pub member-read : (line : List ℕ) (at : ℕ) {end p : ℕ} {c : Cursor} → Plain line at end → valueBehind line (end + 1) ≡ At p
-    → stepped longest (end - (at + 1)) (valueAt 6 line p) ≡ Next c → c .longest ≤ textLimit → MemberAt line at (take (end - (at + 1)) (drop (at + 1) line)) p (c .at)
-member-read line at {end} {p} s e v h =
-    let r = items.stepped-some longest (end - (at + 1)) (valueAt 6 line p) v in
+pub member-read : (line : List ℕ) (at : ℕ) {end p behind : ℕ} → Plain line at end → valueBehind line (end + 1) ≡ At p → PartTo line p (end - (at + 1)) behind
+    → MemberAt line at (take (end - (at + 1)) (drop (at + 1) line)) p behind
+member-read line at {end} s e v =
     record {
-      value = r .value;
+      value = v .value;
       named = name-read line at s e;
-      reads = r .is;
-      short-name = omega (arith, length-take (end - (at + 1)) (drop (at + 1) line), r .long);
-      short = omega (arith, r .long);
+      reads = v .reads;
+      short-name = omega (arith, length-take (end - (at + 1)) (drop (at + 1) line), v .within);
+      short = v .short;
     }
 
 pub member-forward : (line : List ℕ) {at : ℕ} {name : List ℕ} {p end next : ℕ} → MemberAt line at name p end → separatorAt 0x7d line end ≡ Comma next → (at < next) × (next ≤ length line)

@@ -1,7 +1,7 @@
 -- What the functions that read a rule in one pass over its line tell, where they answer: the line's elements from a place on, up to its end.
 use Prim.Native.Nat.{ℕ, _-_, _≤_}
 use mathlib.Core.Path.{_≡_}
-use mathlib.Core.Bool.{Bool, true, false}
+use mathlib.Core.Bool.{Bool, false}
 use mathlib.Core.List.{List}
 use mathlib.Core.Option.{Option, some}
 use lib.ListN.{length}
@@ -28,6 +28,13 @@ WherePlace Nowhere holds = Unit {0}
 abbrev pub WhereRule : RuleRead → (Rule → Type 0) → Type 0
 WhereRule (RuleIs r) holds = holds r
 WhereRule (Refused cause) holds = Unit {0}
+
+-- a value inside an element of the line's array that ends before a place: no string of it, nor one of so many bytes, is over the limit
+pub record PartTo (line : List ℕ) (at before end : ℕ) : Type 0 where
+  pub value : Json
+  pub reads : valueAt 6 line at ≡ some (record { value = value; next = end })
+  pub within : before ≤ textLimit
+  pub short : longest value ≤ textLimit
 
 -- a topic that ends before this place, no string of which is over the limit
 pub record TopicTo (line : List ℕ) (at end : ℕ) : Type 0 where

@@ -44,6 +44,21 @@ const IN_LINE: usize = 7;
 
 const IN_PART: usize = 6;
 
+// The place behind a value of the users' object or the topics' array, if no string of it is over the limit, nor one of `longest` bytes.
+fn part_end(line: &[u8], at: usize, longest: usize) -> Place
+    ensures { λ r. ⌜ spec.WherePlace r (spec.PartTo (now (line .entry)) at longest) ⌝ }
+{
+    match value(Cursor { at, longest }, line, IN_PART) {
+        Step::Bad => Place::Nowhere,
+        Step::Next(c) => {
+            if TEXT < c.longest {
+                return Place::Nowhere;
+            }
+            Place::At(c.at)
+        }
+    }
+}
+
 // Is the text a template, or a valid filter?
 fn is_topic(text: &[u8]) -> bool
     ensures { λ r. ⌜ r ≡ (rule.isTemplate (now (text .entry)) || validFilter (now (text .entry))) ⌝ }
@@ -100,18 +115,13 @@ fn topic_end(line: &[u8], at: usize) -> Place
     if let Place::At(end) = eq_end(line, at) {
         return Place::At(end);
     }
-    match value(Cursor { at, longest: 0 }, line, IN_PART) {
-        Step::Bad => Place::Nowhere,
-        Step::Next(c) => {
-            if TEXT < c.longest {
-                return Place::Nowhere;
-            }
-            if let Topic::Bad = topic_at(line, at) {
-                return Place::Nowhere;
-            }
-            Place::At(c.at)
-        }
+    let Place::At(end) = part_end(line, at, 0) else {
+        return Place::Nowhere;
+    };
+    if let Topic::Bad = topic_at(line, at) {
+        return Place::Nowhere;
     }
+    Place::At(end)
 }
 
 // The place behind the array of topics at this place.
@@ -232,6 +242,19 @@ fn value_behind(line: &[u8], at: usize) -> Place
     Place::Nowhere
 }
 
+fn no_places() -> MemberPlaces
+    ensures { λ r. ⌜ r ≡ members.noPlaces ⌝ }
+{
+    MemberPlaces {
+        user: Place::Nowhere,
+        password: Place::Nowhere,
+        superuser: Place::Nowhere,
+        clientid: Place::Nowhere,
+        ipaddr: Place::Nowhere,
+        protocol: Place::Nowhere,
+    }
+}
+
 // The members of the object at this place, if their names are plain.
 fn members_end(line: &[u8], at: usize) -> MembersPassed
     ensures { λ r. ⌜ members.WhereMembers r (members.MembersTo (now (line .entry)) at) ⌝ }
@@ -239,14 +262,7 @@ fn members_end(line: &[u8], at: usize) -> MembersPassed
     if !is_at(line, at, b'{') {
         return MembersPassed::Unread;
     }
-    let mut found = MemberPlaces {
-        user: Place::Nowhere,
-        password: Place::Nowhere,
-        superuser: Place::Nowhere,
-        clientid: Place::Nowhere,
-        ipaddr: Place::Nowhere,
-        protocol: Place::Nowhere,
-    };
+    let mut found = no_places();
     let mut i = skip_blanks(line, at + 1);
     while i < line.len() {
         let Place::At(end) = plain_text(line, i) else {
@@ -256,20 +272,10 @@ fn members_end(line: &[u8], at: usize) -> MembersPassed
             return MembersPassed::Unread;
         };
         found = with_member(&line[i + 1..end], p, found);
-        let Step::Next(c) = value(
-            Cursor {
-                at: p,
-                longest: end - (i + 1),
-            },
-            line,
-            IN_PART,
-        ) else {
+        let Place::At(behind) = part_end(line, p, end - (i + 1)) else {
             return MembersPassed::Unread;
         };
-        if TEXT < c.longest {
-            return MembersPassed::Unread;
-        }
-        match separator(line, c.at, b'}') {
+        match separator(line, behind, b'}') {
             Separator::Close(next) => {
                 return MembersPassed::Places(found, next);
             }

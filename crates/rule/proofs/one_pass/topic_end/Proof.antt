@@ -2,11 +2,9 @@
 use native.Mathlib.Omega.{arith}
 use mathlib.Core.Path.{sym, ap, _∙_}
 use denote.Ref.{now}
-use Rattle.json.specs.Json.{longest}
 use Rattle.json.proofs.PlainLaws.{Plain, plain-string}
-use Rattle.json.proofs.ElementLaws.{stepped-some}
 use Rattle.rule.specs.Places.{isTopic}
-use Rattle.rule.specs.OnePass.{TopicTo}
+use Rattle.rule.specs.OnePass.{PartTo, TopicTo}
 use Rattle.rule.proofs.TopicLaws.{good-topic}
 use Rattle.rule.proofs.OnePassLaws.{answered, plain-topic, value-topic}
 use borrow.Author.Needs.{needs}
@@ -79,14 +77,14 @@ returns-4 c =
 enum-told-2 : tie.Need-enum-told-2
 enum-told-2 c = search needs
 
-value-requires : tie.Need-value-requires
-value-requires c κs = search needs
+part-end-requires : tie.Need-part-end-requires
+part-end-requires c κs = search needs
+
+enum-known-end-3 : tie.Need-enum-known-end-3
+enum-known-end-3 c = search needs
 
 enum-told-3 : tie.Need-enum-told-3
 enum-told-3 c = search needs
-
-enum-known-c : tie.Need-enum-known-c
-enum-known-c c = search needs
 
 returns-5 : tie.Need-returns-5
 returns-5 c = search needs
@@ -101,13 +99,10 @@ returns-6 : tie.Need-returns-6
 returns-6 c = search needs
 
 returns-7 : tie.Need-returns-7
-returns-7 c = search needs
-
-returns-8 : tie.Need-returns-8
-returns-8 c =
-    let a = c .before .before .before .before .before .before .before .before .before .before .before .before .before .before .before .args in
-    let r = stepped-some longest 0 _ (sym (c .before .before .before .before .before .before .before .value .ensures) ∙ c .before .before .before .before .before .c .given .1) in
-    value-topic (now (a .line)) (a .at) (r .is) (omega (arith, r .long)) (ap isTopic (sym (c .before .topic-at .ensures)) ∙ good-topic (c .before .topic-at .result) (c .match4 .keys2))
+returns-7 c =
+    let a = c .before .before .before .before .before .before .before .before .before .before .before .before .before .args in
+    let t = answered (PartTo (now (a .line)) (a .at) 0) (c .before .before .before .end3 .given .1) (c .before .before .before .before .before .part-end .ensures) in
+    value-topic (now (a .line)) (a .at) (t .reads) (t .short) (ap isTopic (sym (c .before .topic-at .ensures)) ∙ good-topic (c .before .topic-at .result) (c .match4 .keys2))
 
 pub topic-end-spec : {M : Type 1} → statement M
 topic-end-spec =
@@ -131,12 +126,11 @@ topic-end-spec =
     enum-known-end-2
     returns-4
     enum-told-2
-    value-requires
+    part-end-requires
+    enum-known-end-3
     enum-told-3
-    enum-known-c
     returns-5
     topic-at-requires
     enum-told-4
     returns-6
-    returns-7
-    returns-8)
+    returns-7)
