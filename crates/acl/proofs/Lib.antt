@@ -1,0 +1,5 @@
+pub mod SharingLaws
+pub mod RunLaws
+pub mod Positions
+pub mod Reordering
+pub mod Example

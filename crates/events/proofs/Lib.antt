@@ -1,0 +1,9 @@
+pub mod EventLaws
+pub mod AcceptedLaws
+pub mod TemplateWalk
+pub mod PushLaws
+pub mod ConnectLaws
+pub mod FillLaws
+pub mod StoreLaws
+pub mod LeaveLaws
+pub mod Example
