@@ -1,5 +1,12 @@
 // The library for C and Rust: what a host calls, under names that begin with `acl_`. Nothing of the repository calls it. A lent
-// text crosses as its address, never null, and its length.
+// text, and a store, crosses as its address, never null, and its length; `acl_open` writes the store, the questions only read it. Answers on
+// a store are the numbers of specs/Answers.antt.
+use questions::ConnectAnswer;
+use questions::PublishAnswer;
+use questions::SubscribeAnswer;
+use questions::ask::connect;
+use questions::ask::publish;
+use questions::ask::subscribe;
 use rule::Given;
 use rule::Identity;
 use rule::Protocol;
@@ -7,13 +14,23 @@ use rule::Refusal;
 use rule::RuleRead;
 use rule::agreement::identity;
 use rule::read::read_rule;
+use store::Opened;
+use store::opening::open;
 ghost use mathlib.Core.Path.{_≡_};
+ghost use mathlib.Core.Option.{some, Option·map};
+ghost use Prim.Native.Nat.{_+_, _*_, _≤_};
+ghost use lib.ListN.{length};
 ghost use Rattle.json.specs.Json.{lineValue};
 ghost use Rattle.json.specs.Access.{isDocument, documentWithin};
 ghost use Rattle.topic.specs.Topic as spec;
 ghost use Rattle.rule.specs.Refusals.{number};
 ghost use Rattle.rule.specs.Places.{given, placedProtocol};
+ghost use Rattle.store.specs.Opening as opening;
+ghost use Rattle.questions.specs.Question as question;
+ghost use Rattle.questions.specs.Decision.{ask};
+ghost use Rattle.questions.specs.Answers as said;
 ghost use Rattle.ffi.specs.Rules as rules;
+ghost use Rattle.ffi.specs.Answers as answers;
 
 // Is the text a valid filter?
 #[no_mangle]
@@ -148,5 +165,186 @@ pub extern "C" fn acl_identity(
         given_text(has_address, address),
         address,
         given_protocol(has_protocol, protocol),
+    ))
+}
+
+fn opened_number(answer: Opened) -> u32
+    requires { ⌜ answers.openNumber (opening.says answer) ≤ 66047 ⌝ }
+    ensures { λ r. ⌜ r ≡ answers.openNumber (opening.says answer) ⌝ }
+{
+    match answer {
+        Opened::Done => 0,
+        Opened::Refused(cause, line) => refusal_number(cause) as u32 + 256 * line as u32,
+    }
+}
+
+// Opens a store for a rule text: 0 done, else the number of document 01 plus 256 times the line. Refused, the store is unchanged.
+#[no_mangle]
+pub extern "C" fn acl_open(
+    store: &mut [u8],
+    bytes: u64,
+    filters: u64,
+    eqs: u64,
+    notes: u64,
+    text: &[u8],
+) -> u32
+    ensures { λ r. ⌜ r ≡ answers.openNumber (Option·map opening.told (opening.openFault (record { bytes = bytes; filters = filters; eqs = eqs; notes = notes }) (now (text .entry)) (length (now (store .entry))))) ⌝ }
+    ensures { λ r. ⌜ now (store .exit) ≡ opening.afterOpen (record { bytes = bytes; filters = filters; eqs = eqs; notes = notes }) (now (text .entry)) (now (store .entry)) ⌝ }
+{
+    opened_number(open(store, bytes, filters, eqs, notes, text))
+}
+
+// What is answered, below 16, with its rule or code.
+fn numbered(value: u64, what: u64) -> u32
+    requires { ⌜ 16 * value + what ≤ 4111 ⌝ }
+    ensures { λ r. ⌜ r ≡ 16 * value + what ⌝ }
+{
+    (16 * value + what) as u32
+}
+
+fn connect_number(answer: ConnectAnswer) -> u32
+    requires { ⌜ answers.packed (said.connectSays answer) ≤ 4111 ⌝ }
+    ensures { λ r. ⌜ r ≡ answers.packed (said.connectSays answer) ⌝ }
+{
+    match answer {
+        ConnectAnswer::Kept(code) => numbered(code, 1),
+        ConnectAnswer::Allow(rule, superuser) => {
+            if superuser {
+                return numbered(rule as u64, 3);
+            }
+            numbered(rule as u64, 2)
+        }
+        ConnectAnswer::Refuse(rule) => numbered(rule as u64, 8),
+        ConnectAnswer::Refused(cause) => numbered(refusal_number(cause) as u64, 0),
+    }
+}
+
+// May the client connect? The answer is `packed` of specs/Answers.antt: what is answered below 16, the rule 16 times. An optional text counts
+// where its flag is true.
+#[no_mangle]
+pub extern "C" fn acl_connect(
+    store: &[u8],
+    earlier: u64,
+    id: &[u8],
+    has_name: bool,
+    name: &[u8],
+    has_password: bool,
+    password: &[u8],
+    has_address: bool,
+    address: &[u8],
+    protocol: u8,
+) -> u32
+    ensures { λ r. ⌜ r ≡ answers.packed (ask (question.connect earlier (record { id = now (id .entry); name = rules.where-true «has_name» (now (name .entry)); password = rules.where-true «has_password» (now (password .entry)); address = rules.where-true «has_address» (now (address .entry)); protocol = some protocol })) (now (store .entry))) ⌝ }
+{
+    connect_number(connect(
+        store,
+        earlier,
+        id,
+        given_text(has_name, name),
+        name,
+        given_text(has_password, password),
+        password,
+        given_text(has_address, address),
+        address,
+        protocol,
+    ))
+}
+
+fn subscribe_number(answer: SubscribeAnswer) -> u32
+    requires { ⌜ answers.packed (said.subscribeSays answer) ≤ 4111 ⌝ }
+    ensures { λ r. ⌜ r ≡ answers.packed (said.subscribeSays answer) ⌝ }
+{
+    match answer {
+        SubscribeAnswer::Kept(code) => numbered(code, 1),
+        SubscribeAnswer::Allow(rule, qos) => numbered(rule as u64, 4 + qos),
+        SubscribeAnswer::Refuse(rule) => numbered(rule as u64, 11),
+        SubscribeAnswer::Refused(cause) => numbered(refusal_number(cause) as u64, 0),
+    }
+}
+
+// May the client subscribe to the topic? The protocol counts where its flag is true.
+#[no_mangle]
+pub extern "C" fn acl_subscribe(
+    store: &[u8],
+    earlier: u64,
+    id: &[u8],
+    has_name: bool,
+    name: &[u8],
+    has_password: bool,
+    password: &[u8],
+    has_address: bool,
+    address: &[u8],
+    has_protocol: bool,
+    protocol: u8,
+    topic: &[u8],
+    qos: u64,
+) -> u32
+    ensures { λ r. ⌜ r ≡ answers.packed (ask (question.subscribe earlier (record { id = now (id .entry); name = rules.where-true «has_name» (now (name .entry)); password = rules.where-true «has_password» (now (password .entry)); address = rules.where-true «has_address» (now (address .entry)); protocol = rules.where-true «has_protocol» protocol }) (now (topic .entry)) qos) (now (store .entry))) ⌝ }
+{
+    subscribe_number(subscribe(
+        store,
+        earlier,
+        id,
+        given_text(has_name, name),
+        name,
+        given_text(has_password, password),
+        password,
+        given_text(has_address, address),
+        address,
+        given_protocol(has_protocol, protocol),
+        topic,
+        qos,
+    ))
+}
+
+fn publish_number(answer: PublishAnswer) -> u32
+    requires { ⌜ answers.packed (said.publishSays answer) ≤ 4111 ⌝ }
+    ensures { λ r. ⌜ r ≡ answers.packed (said.publishSays answer) ⌝ }
+{
+    match answer {
+        PublishAnswer::Kept(code) => numbered(code, 1),
+        PublishAnswer::Allow(rule) => numbered(rule as u64, 7),
+        PublishAnswer::Refuse(rule, disconnect) => {
+            if disconnect {
+                return numbered(rule as u64, 10);
+            }
+            numbered(rule as u64, 9)
+        }
+        PublishAnswer::Refused(cause) => numbered(refusal_number(cause) as u64, 0),
+    }
+}
+
+// May the client publish to the topic? A refusal by a rule carries the disconnect flag.
+#[no_mangle]
+pub extern "C" fn acl_publish(
+    store: &[u8],
+    earlier: u64,
+    id: &[u8],
+    has_name: bool,
+    name: &[u8],
+    has_password: bool,
+    password: &[u8],
+    has_address: bool,
+    address: &[u8],
+    has_protocol: bool,
+    protocol: u8,
+    topic: &[u8],
+    disconnect: bool,
+) -> u32
+    ensures { λ r. ⌜ r ≡ answers.packed (ask (question.publish earlier (record { id = now (id .entry); name = rules.where-true «has_name» (now (name .entry)); password = rules.where-true «has_password» (now (password .entry)); address = rules.where-true «has_address» (now (address .entry)); protocol = rules.where-true «has_protocol» protocol }) (now (topic .entry)) disconnect) (now (store .entry))) ⌝ }
+{
+    publish_number(publish(
+        store,
+        earlier,
+        id,
+        given_text(has_name, name),
+        name,
+        given_text(has_password, password),
+        password,
+        given_text(has_address, address),
+        address,
+        given_protocol(has_protocol, protocol),
+        topic,
+        disconnect,
     ))
 }

@@ -1,0 +1,47 @@
+-- The texts and the protocol that are given are those of the flags; every answer is small. Assumes nothing.
+use mathlib.Core.Path.{sym, ap, _∙_}
+use mathlib.Core.Option.{some}
+use denote.Ref.{now}
+use Rattle.questions.specs.Question.{subscribe}
+use Rattle.questions.specs.Decision.{ask}
+use Rattle.questions.specs.Parts.{protocolOf}
+use Rattle.ffi.specs.Answers.{packed}
+use Rattle.ffi.proofs.AnswerLaws.{answer-small, protocol-placed}
+use borrow.Author.Needs.{needs}
+use Rattle.ffi.proofs.acl_subscribe.Statement.{statement}
+use Rattle.ffi.proofs.acl_subscribe.Tie as tie
+
+given-text-requires : tie.Need-given-text-requires
+given-text-requires c κs = search needs
+
+given-text-requires-2 : tie.Need-given-text-requires-2
+given-text-requires-2 c κs = search needs
+
+given-text-requires-3 : tie.Need-given-text-requires-3
+given-text-requires-3 c κs = search needs
+
+given-protocol-requires : tie.Need-given-protocol-requires
+given-protocol-requires c κs = search needs
+
+subscribe-requires : tie.Need-subscribe-requires
+subscribe-requires c κs = search needs
+
+subscribe-number-requires : tie.Need-subscribe-number-requires
+subscribe-number-requires c κs = rw (c .subscribe .ensures) (answer-small _ _)
+
+returns : tie.Need-returns
+returns c =
+    let a = c .before .before .before .before .before .before .before .before .before .before .before .before .args in
+    c .subscribe-number .ensures ∙ ap packed (c .before .subscribe .ensures ∙ (λ i. ask (subscribe (a .earlier) (record { id = now (a .id); name = c .before .before .before .before .before .given-text .ensures i; password = c .before .before .before .before .given-text2 .ensures i; address = c .before .before .before .given-text3 .ensures i; protocol = (ap protocolOf (c .before .before .given-protocol .ensures) ∙ protocol-placed _) i }) (now (a .topic)) (a .qos)) (now (a .store))))
+
+pub acl-subscribe-spec : {M : Type 1} → statement M
+acl-subscribe-spec =
+    tie.close
+    (tie.spec
+    given-text-requires
+    given-text-requires-2
+    given-text-requires-3
+    given-protocol-requires
+    subscribe-requires
+    subscribe-number-requires
+    returns)
