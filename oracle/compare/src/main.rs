@@ -1,13 +1,15 @@
-//! compare [SECONDS] [--seed N] [--length N]
+//! compare [SECONDS] [--seed N] [--length N] [--only KIND]
 //!
 //! Compares the port's exported functions with the original Rust: V, whether a
 //! text is a valid filter; T, the tree match; P, the plain match. First all
 //! texts over `a $ + # /`, for T and P up to the length, for V three longer;
-//! then random ones for a third of SECONDS. With serde_json: J, whether a line
+//! then random ones for a quarter of SECONDS. With serde_json: J, whether a line
 //! is a document; L, whether its strings are within a limit. First all short
-//! lines, then random ones for a third. And with the plugin: R, whether a line is
+//! lines, then random ones for a quarter. With the plugin: R, whether a line is
 //! a rule; I, whether it means a client. First all combinations of a rule's parts,
-//! then random ones for a third. Exit status 1 if anything differs.
+//! then random ones for a quarter. And O, opening a store for a rule text; Q, the
+//! three questions on it: random ones for a quarter. Exit status 1 if anything
+//! differs.
 
 mod phases;
 mod tally;
@@ -21,10 +23,11 @@ struct Options {
     seconds: u64,
     seed: u64,
     length: usize,
+    only: Option<String>,
 }
 
 fn options() -> Result<Options, String> {
-    let mut options = Options { seconds: 60, seed: 1, length: 7 };
+    let mut options = Options { seconds: 60, seed: 1, length: 7, only: None };
     let mut args = std::env::args().skip(1);
     let number = |arg: Option<String>| -> Result<u64, String> {
         let arg = arg.ok_or("a number is missing")?;
@@ -33,6 +36,7 @@ fn options() -> Result<Options, String> {
     while let Some(arg) = args.next() {
         match arg.as_str() {
             "--seed" => options.seed = number(args.next())?,
+            "--only" => options.only = args.next(),
             "--length" => options.length = number(args.next())? as usize,
             _ => options.seconds = number(Some(arg))?,
         }
@@ -40,7 +44,12 @@ fn options() -> Result<Options, String> {
     Ok(options)
 }
 
-fn phase(name: &str, all: &mut Tally, run: impl FnOnce() -> Tally) {
+/// Runs the phase, unless only a kind is asked that it doesn't name.
+fn phase(only: &Option<String>, name: &str, all: &mut Tally, run: impl FnOnce() -> Tally) {
+    let mut kinds = name.split([',', ' ']);
+    if only.as_ref().is_some_and(|only| kinds.all(|kind| kind != only)) {
+        return;
+    }
     let begin = Instant::now();
     let tally = run();
     let seconds = begin.elapsed().as_secs_f64();
@@ -49,26 +58,28 @@ fn phase(name: &str, all: &mut Tally, run: impl FnOnce() -> Tally) {
 }
 
 fn main() -> ExitCode {
-    let Options { seconds, seed, length } = match options() {
+    let Options { seconds, seed, length, only } = match options() {
         Ok(options) => options,
         Err(error) => {
-            eprintln!("compare [SECONDS] [--seed N] [--length N]: {error}");
+            eprintln!("compare [SECONDS] [--seed N] [--length N] [--only KIND]: {error}");
             return ExitCode::from(2);
         }
     };
     let mut all = Tally::default();
+    let phase = |name: &str, all: &mut Tally, run: &dyn Fn() -> Tally| phase(&only, name, all, run);
     let longer = length + 3;
-    phase(&format!("V, all texts up to {longer} bytes"), &mut all, || phases::short_filters(longer));
-    phase(&format!("T and P, all pairs up to {length} bytes"), &mut all, || phases::short_pairs(length));
-    phase("J and L, all short lines", &mut all, phases::short_lines);
-    phase("J and L, all damages of a few lines", &mut all, phases::damaged_lines);
-    phase("R, all combinations of a few parts", &mut all, phases::short_rules);
-    phase("R and I, all combinations of a few users and clients", &mut all, phases::short_identities);
-    phase("R and I, all damages of a few rules", &mut all, phases::damaged_rules);
-    let third = || Instant::now() + Duration::from_secs(seconds) / 3;
-    phase(&format!("V, T and P, random, seed {seed}"), &mut all, || phases::random(seed, third()));
-    phase(&format!("J and L, random, seed {seed}"), &mut all, || phases::random_lines(seed, third()));
-    phase(&format!("R and I, random, seed {seed}"), &mut all, || phases::random_rules(seed, third()));
+    phase(&format!("V, all texts up to {longer} bytes"), &mut all, &|| phases::short_filters(longer));
+    phase(&format!("T and P, all pairs up to {length} bytes"), &mut all, &|| phases::short_pairs(length));
+    phase("J and L, all short lines", &mut all, &phases::short_lines);
+    phase("J and L, all damages of a few lines", &mut all, &phases::damaged_lines);
+    phase("R, all combinations of a few parts", &mut all, &phases::short_rules);
+    phase("R and I, all combinations of a few users and clients", &mut all, &phases::short_identities);
+    phase("R and I, all damages of a few rules", &mut all, &phases::damaged_rules);
+    let part = || Instant::now() + Duration::from_secs(seconds) / 4;
+    phase(&format!("V, T and P, random, seed {seed}"), &mut all, &|| phases::random(seed, part()));
+    phase(&format!("J and L, random, seed {seed}"), &mut all, &|| phases::random_lines(seed, part()));
+    phase(&format!("R and I, random, seed {seed}"), &mut all, &|| phases::random_rules(seed, part()));
+    phase(&format!("O and Q, random, seed {seed}"), &mut all, &|| phases::random_questions(seed, part()));
     println!("\n{all}");
     if all.differences() == 0 {
         ExitCode::SUCCESS

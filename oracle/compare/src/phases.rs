@@ -6,12 +6,15 @@ use std::thread;
 use std::time::Instant;
 
 use oracle::cases::Kind;
+use oracle::decide::{Kind as QuestionKind, Machine};
 use oracle::generate::{self, Random, ALPHABET, LIMIT};
 use oracle::json::lines::RICH;
 use oracle::json::short::{families, Family};
 use oracle::json::{self, judge, Judged};
 use oracle::matching::{self, checked, filter, tree};
+use oracle::questions::{self, Asked, List, Reply, Step};
 use oracle::rules::{self, Client, Judged as JudgedRule};
+use oracle::runtime;
 
 use crate::tally::Tally;
 
@@ -218,6 +221,133 @@ pub fn random_rules(seed: u64, until: Instant) -> Tally {
             for line in &lines {
                 let clients: Vec<_> = (0..4).map(|_| rules::generate::client(&mut r, line)).collect();
                 compare_rule(line, &clients, tally);
+            }
+        }
+        Instant::now() < until
+    })
+}
+
+/// A store for rule texts of up to so many bytes.
+struct Store {
+    counts: port::Counts,
+    bytes: Vec<u8>,
+}
+
+impl Store {
+    fn new(room: u64) -> Store {
+        let counts = port::Counts { bytes: room, filters: 64, eqs: 32, notes: 64 };
+        Store { counts, bytes: vec![0xa5; counts.length()] }
+    }
+
+    /// What the bytes are to be after opening: document 01's layout, no used row.
+    fn laid_out(&self, text: &[u8]) -> Vec<u8> {
+        let port::Counts { bytes, filters, eqs, notes } = self.counts;
+        let header = [bytes, filters, eqs, notes, text.len() as u64, 0, 0, 0];
+        let mut out: Vec<u8> = header.iter().flat_map(|n| (*n as u16).to_le_bytes()).collect();
+        out.extend(text);
+        out.resize(self.counts.length(), 0);
+        out
+    }
+
+    fn open(&mut self, text: &[u8]) -> u32 {
+        port::open(&mut self.bytes, self.counts, text)
+    }
+
+    fn ask(&self, asked: &Asked, disconnect: bool) -> u32 {
+        let Client { id, name, password, address, protocol } = &asked.client;
+        let client = port::Client {
+            earlier: asked.earlier,
+            id: id.as_bytes(),
+            name: (name.given, name.value.as_bytes()),
+            password: (password.given, &password.value),
+            address: (address.given, address.value.as_bytes()),
+            protocol: (protocol.given, protocol.value),
+        };
+        let topic = asked.topic.as_bytes();
+        match asked.kind {
+            QuestionKind::Connect => port::connect(&self.bytes, client),
+            QuestionKind::Subscribe => port::subscribe(&self.bytes, client, topic, asked.qos),
+            QuestionKind::Publish => port::publish(&self.bytes, client, topic, disconnect),
+        }
+    }
+}
+
+/// O: 1 for a text over its room or over 256 lines, else the number of the first line that the
+/// judge of rules refuses; and every byte of the store.
+fn compare_open(store: &mut Store, text: &[u8], tally: &mut Tally) {
+    let mut lines: Vec<&[u8]> = text.split(|b| *b == b'\n').collect();
+    if lines.last().is_some_and(|line| line.is_empty()) {
+        lines.pop();
+    }
+    let numbers = lines.iter().map(|line| rules::judge(line).verdict.number() as u32);
+    let judged = match numbers.enumerate().find(|(_, number)| *number != 0) {
+        _ if text.len() as u64 > store.counts.bytes => 1,
+        _ if lines.len() > 256 => 1 + 256 * 257,
+        Some((line, number)) => number + 256 * (line as u32 + 1),
+        None => 0,
+    };
+    let meant = if judged == 0 { store.laid_out(text) } else { store.bytes.clone() };
+    let port = store.open(text);
+    tally.count_open(text, judged, port, store.bytes == meant);
+}
+
+/// Both answers to one question, from nothing.
+fn both(list: &List, asked: &Asked) -> (Reply, u32) {
+    let runtime = runtime();
+    let rust = asked.judge(&list.machine(&runtime), &runtime);
+    let mut store = Store::new(questions::ROOM as u64);
+    store.open(&list.text());
+    (rust, store.ask(asked, list.disconnect))
+}
+
+/// The list without the rules that the difference doesn't need.
+fn reduced(list: &List, asked: &Asked) -> (List, Asked, Reply, u32) {
+    let mut list = list.clone();
+    let mut at = 0;
+    while at < list.lines.len() {
+        let mut fewer = list.clone();
+        fewer.lines.remove(at);
+        let (rust, port) = both(&fewer, asked);
+        if rust.number() != port {
+            list = fewer;
+        } else {
+            at += 1;
+        }
+    }
+    let (rust, port) = both(&list, asked);
+    (list, asked.clone(), rust, port)
+}
+
+/// Q on a store that was opened for the list.
+fn compare_question(
+    list: &List,
+    machine: &Machine,
+    runtime: &questions::Runtime,
+    store: &Store,
+    asked: &Asked,
+    tally: &mut Tally,
+) {
+    let rust = asked.judge(machine, runtime);
+    let port = store.ask(asked, list.disconnect);
+    tally.count_question(asked.kind, rust, port, || reduced(list, asked));
+}
+
+/// O and Q of random rule lists, until the time is up.
+pub fn random_questions(seed: u64, until: Instant) -> Tally {
+    in_blocks(|block, tally| {
+        let mut r = Random::of_block(seed, block as u64);
+        let runtime = runtime();
+        for _ in 0..20 {
+            let list = questions::generate::list(&mut r);
+            let text = list.text();
+            let mut store = Store::new(if text.len() <= 2_048 { 2_048 } else { questions::ROOM as u64 });
+            compare_open(&mut store, &questions::generate::damaged(&mut r, &list), tally);
+            compare_open(&mut store, &text, tally);
+            let machine = list.machine(&runtime);
+            for step in questions::generate::steps(&mut r, &list) {
+                match step {
+                    Step::Ask(asked) => compare_question(&list, &machine, &runtime, &store, &asked, tally),
+                }
             }
         }
         Instant::now() < until

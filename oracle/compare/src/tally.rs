@@ -3,13 +3,15 @@
 use std::fmt;
 
 use oracle::cases::{word, Case, Kind};
+use oracle::decide::Kind as QuestionKind;
 use oracle::json::{judge, Judged};
+use oracle::questions::{self, List, Reply};
 use oracle::rules::{self, Client, Identity, Verdict};
 
 /// The rows of the table: kind and the Rust's answer. Intended are answers no to
 /// a line that serde_json reads, or the plugin takes for a rule, and document 01
 /// doesn't; and an address that only document 01 can have.
-const ROWS: [(&str, &str); 25] = [
+const ROWS: [(&str, &str); 43] = [
     ("V", "yes"),
     ("V", "no"),
     ("T", "yes"),
@@ -35,6 +37,24 @@ const ROWS: [(&str, &str); 25] = [
     ("I", "no rule"),
     ("I", "intended: line"),
     ("I", "intended: address"),
+    ("O", "opened"),
+    ("O", "a line refused"),
+    ("Q", "connect: allow"),
+    ("Q", "connect: superuser"),
+    ("Q", "connect: refused"),
+    ("Q", "connect: no rule"),
+    ("Q", "connect: kept"),
+    ("Q", "subscribe: allow"),
+    ("Q", "subscribe: refused"),
+    ("Q", "subscribe: no rule"),
+    ("Q", "subscribe: kept"),
+    ("Q", "publish: allow"),
+    ("Q", "publish: refused"),
+    ("Q", "publish: dropped"),
+    ("Q", "publish: no rule"),
+    ("Q", "publish: kept"),
+    ("Q", "intended: 1, too long"),
+    ("Q", "intended: 2, range"),
 ];
 
 /// A case that differs.
@@ -45,6 +65,9 @@ enum Asked {
     /// The port's answer last.
     Rule(Vec<u8>, u8),
     Identity(Vec<u8>, Client, u8),
+    /// The judge's answer, then the port's.
+    Open(Vec<u8>, u32, u32),
+    Question(List, questions::Asked, Reply, u32),
 }
 
 impl Asked {
@@ -54,17 +77,30 @@ impl Asked {
             Asked::Match(case) => (case.size(), case.filter.as_bytes(), case.text.as_bytes()),
             Asked::Document(line) | Asked::Within(line, _) | Asked::Rule(line, _) => (line.len(), line, &[]),
             Asked::Identity(line, client, _) => (line.len() + client.size(), line, client.id.as_bytes()),
+            Asked::Open(text, ..) => (text.len(), text, &[]),
+            Asked::Question(list, asked, ..) => {
+                (list.size() + asked.size(), asked.topic.as_bytes(), asked.client.id.as_bytes())
+            }
         }
     }
 }
 
 /// Compared cases by row.
-#[derive(Default)]
 pub struct Tally {
     cases: [u64; ROWS.len()],
     differences: [u64; ROWS.len()],
     /// Of each row the smallest case that differs.
     smallest: [Option<Asked>; ROWS.len()],
+}
+
+impl Default for Tally {
+    fn default() -> Tally {
+        Tally {
+            cases: [0; ROWS.len()],
+            differences: [0; ROWS.len()],
+            smallest: std::array::from_fn(|_| None),
+        }
+    }
 }
 
 impl Tally {
@@ -134,6 +170,43 @@ impl Tally {
         }
     }
 
+    /// Counts one opening. `as_meant`: the store has the bytes that it should have.
+    pub fn count_open(&mut self, text: &[u8], judged: u32, port: u32, as_meant: bool) {
+        let row = 25 + (judged != 0) as usize;
+        self.cases[row] += 1;
+        if judged != port || !as_meant {
+            self.differ(row, Asked::Open(text.into(), judged, port));
+        }
+    }
+
+    /// Counts one question of Q; of one that differs `reduce` makes the smallest.
+    pub fn count_question(
+        &mut self,
+        kind: QuestionKind,
+        rust: Reply,
+        port: u32,
+        reduce: impl FnOnce() -> (List, questions::Asked, Reply, u32),
+    ) {
+        let row = match (kind, rust) {
+            (_, Reply::Connects { superuser, .. }) => 27 + superuser as usize,
+            (QuestionKind::Connect, Reply::NotAuthorized { rule, .. }) => 29 + (rule == 0) as usize,
+            (QuestionKind::Connect, Reply::Kept(_)) => 31,
+            (_, Reply::Subscribes { .. }) => 32,
+            (_, Reply::UnspecifiedError { rule }) => 33 + (rule == 0) as usize,
+            (QuestionKind::Subscribe, Reply::Kept(_)) => 35,
+            (_, Reply::Publishes { .. }) => 36,
+            (_, Reply::NotAuthorized { rule: 0, .. }) => 39,
+            (_, Reply::NotAuthorized { disconnect, .. }) => 37 + (disconnect == Some(true)) as usize,
+            (_, Reply::Kept(_)) => 40,
+            (_, Reply::Refused(number)) => 40 + number as usize,
+        };
+        self.cases[row] += 1;
+        if rust.number() != port {
+            let (list, asked, rust, port) = reduce();
+            self.differ(row, Asked::Question(list, asked, rust, port));
+        }
+    }
+
     #[cold]
     fn differ(&mut self, row: usize, asked: Asked) {
         self.differences[row] += 1;
@@ -169,10 +242,10 @@ impl Tally {
 /// The table, then each smallest difference in full.
 impl fmt::Display for Tally {
     fn fmt(&self, f: &mut fmt::Formatter<'_>) -> fmt::Result {
-        writeln!(f, "kind  answer                      cases  differences")?;
+        writeln!(f, "kind  answer                          cases  differences")?;
         for (row, (kind, answer)) in ROWS.iter().enumerate() {
             let (cases, differences) = (grouped(self.cases[row]), grouped(self.differences[row]));
-            writeln!(f, "{kind:4}  {answer:17}  {cases:>14}  {differences:>11}")?;
+            writeln!(f, "{kind:4}  {answer:21}  {cases:>14}  {differences:>11}")?;
         }
         self.smallest.iter().flatten().try_for_each(|asked| asked.fmt(f))
     }
@@ -210,6 +283,19 @@ impl fmt::Display for Asked {
                 let judged = rules::judge(line).identity(client);
                 let number = judged.number();
                 return writeln!(f, "  judged: {judged:?}; the judge answers {number}, the port {port}");
+            }
+            Asked::Open(text, number, port) => {
+                writeln!(f, "\ndifference, O: text b\"{}\"", text.escape_ascii())?;
+                return writeln!(f, "  the judge answers {number}, the port {port}; or a byte of the store");
+            }
+            Asked::Question(list, asked, rust, port) => {
+                writeln!(f, "\ndifference, Q: disconnect {}, rules", list.disconnect)?;
+                for line in &list.lines {
+                    writeln!(f, "  {}", line.escape_ascii())?;
+                }
+                writeln!(f, "  {asked:?}")?;
+                let number = rust.number();
+                return writeln!(f, "  judged: {rust:?}; the judge answers {number}, the port {port}");
             }
         };
         writeln!(f, "  the judge answers {}, the port {}", word(rust), word(!rust))

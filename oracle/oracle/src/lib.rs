@@ -8,6 +8,7 @@ pub mod generate;
 pub mod json;
 pub mod matching;
 pub mod perclient;
+pub mod questions;
 pub mod record;
 pub mod rules;
 

@@ -32,6 +32,75 @@ mod exported {
             has_protocol: bool,
             protocol: u8,
         ) -> u8;
+        pub fn acl_open(
+            store: *mut u8,
+            store_len: usize,
+            bytes: u64,
+            filters: u64,
+            eqs: u64,
+            notes: u64,
+            text: *const u8,
+            text_len: usize,
+        ) -> u32;
+        pub fn acl_connect(
+            store: *const u8,
+            store_len: usize,
+            earlier: u64,
+            id: *const u8,
+            id_len: usize,
+            has_name: bool,
+            name: *const u8,
+            name_len: usize,
+            has_password: bool,
+            password: *const u8,
+            password_len: usize,
+            has_address: bool,
+            address: *const u8,
+            address_len: usize,
+            protocol: u8,
+        ) -> u32;
+        pub fn acl_subscribe(
+            store: *const u8,
+            store_len: usize,
+            earlier: u64,
+            id: *const u8,
+            id_len: usize,
+            has_name: bool,
+            name: *const u8,
+            name_len: usize,
+            has_password: bool,
+            password: *const u8,
+            password_len: usize,
+            has_address: bool,
+            address: *const u8,
+            address_len: usize,
+            has_protocol: bool,
+            protocol: u8,
+            topic: *const u8,
+            topic_len: usize,
+            qos: u64,
+        ) -> u32;
+        pub fn acl_publish(
+            store: *const u8,
+            store_len: usize,
+            earlier: u64,
+            id: *const u8,
+            id_len: usize,
+            has_name: bool,
+            name: *const u8,
+            name_len: usize,
+            has_password: bool,
+            password: *const u8,
+            password_len: usize,
+            has_address: bool,
+            address: *const u8,
+            address_len: usize,
+            has_protocol: bool,
+            protocol: u8,
+            topic: *const u8,
+            topic_len: usize,
+            disconnect: bool,
+        ) -> u32;
     }
 }
 
@@ -96,6 +165,130 @@ pub fn identity(
             address.1.len(),
             protocol.0,
             protocol.1,
+        )
+    }
+}
+
+/// R, F, E, N: the bytes for the rule text and the rows that each table has room for.
+#[derive(Clone, Copy, Debug)]
+pub struct Counts {
+    pub bytes: u64,
+    pub filters: u64,
+    pub eqs: u64,
+    pub notes: u64,
+}
+
+impl Counts {
+    /// The length of a store.
+    pub fn length(self) -> usize {
+        (16 + self.bytes + 326 * self.filters + 260 * self.eqs + 260 * self.notes) as usize
+    }
+}
+
+/// 0 done, else the number of document 01 plus 256 times the line.
+pub fn open(store: &mut [u8], counts: Counts, text: &[u8]) -> u32 {
+    let Counts { bytes, filters, eqs, notes } = counts;
+    // SAFETY: the function reads both slices and writes the first.
+    unsafe {
+        exported::acl_open(
+            store.as_mut_ptr(),
+            store.len(),
+            bytes,
+            filters,
+            eqs,
+            notes,
+            text.as_ptr(),
+            text.len(),
+        )
+    }
+}
+
+/// Who asks, by what an earlier answer left.
+#[derive(Clone, Copy)]
+pub struct Client<'a> {
+    pub earlier: u64,
+    pub id: &'a [u8],
+    pub name: Lent<&'a [u8]>,
+    pub password: Lent<&'a [u8]>,
+    pub address: Lent<&'a [u8]>,
+    /// Connect takes it as given.
+    pub protocol: Lent<u8>,
+}
+
+/// The answers of the three questions are packed, see crates/ffi/specs/Answers.antt.
+pub fn connect(store: &[u8], c: Client) -> u32 {
+    // SAFETY: the function only reads, and only the slices.
+    unsafe {
+        exported::acl_connect(
+            store.as_ptr(),
+            store.len(),
+            c.earlier,
+            c.id.as_ptr(),
+            c.id.len(),
+            c.name.0,
+            c.name.1.as_ptr(),
+            c.name.1.len(),
+            c.password.0,
+            c.password.1.as_ptr(),
+            c.password.1.len(),
+            c.address.0,
+            c.address.1.as_ptr(),
+            c.address.1.len(),
+            c.protocol.1,
+        )
+    }
+}
+
+pub fn subscribe(store: &[u8], c: Client, topic: &[u8], qos: u64) -> u32 {
+    // SAFETY: as above.
+    unsafe {
+        exported::acl_subscribe(
+            store.as_ptr(),
+            store.len(),
+            c.earlier,
+            c.id.as_ptr(),
+            c.id.len(),
+            c.name.0,
+            c.name.1.as_ptr(),
+            c.name.1.len(),
+            c.password.0,
+            c.password.1.as_ptr(),
+            c.password.1.len(),
+            c.address.0,
+            c.address.1.as_ptr(),
+            c.address.1.len(),
+            c.protocol.0,
+            c.protocol.1,
+            topic.as_ptr(),
+            topic.len(),
+            qos,
+        )
+    }
+}
+
+pub fn publish(store: &[u8], c: Client, topic: &[u8], disconnect: bool) -> u32 {
+    // SAFETY: as above.
+    unsafe {
+        exported::acl_publish(
+            store.as_ptr(),
+            store.len(),
+            c.earlier,
+            c.id.as_ptr(),
+            c.id.len(),
+            c.name.0,
+            c.name.1.as_ptr(),
+            c.name.1.len(),
+            c.password.0,
+            c.password.1.as_ptr(),
+            c.password.1.len(),
+            c.address.0,
+            c.address.1.as_ptr(),
+            c.address.1.len(),
+            c.protocol.0,
+            c.protocol.1,
+            topic.as_ptr(),
+            topic.len(),
+            disconnect,
         )
     }
 }

@@ -14,7 +14,7 @@ use serde_json::{json, Value};
 
 use event::Event;
 use instance::{Attrs, Instance};
-use question::{Answer, Kind, Question};
+pub use question::{Answer, Kind, Question};
 
 /// Where the plugin keeps the notes of a session (its `CACHE_KEY`).
 const NOTES: &str = "$SYS/ACL-CACHE-MAP";
@@ -31,7 +31,7 @@ pub struct Options {
 
 /// The plugin over the full rule list, and, since the Rust doesn't tell which
 /// rule decided, over its beginnings.
-struct Machine {
+pub struct Machine {
     full: Instance,
     /// `plain[k]`: the first k rules, for k below their number.
     plain: Vec<Instance>,
@@ -40,8 +40,16 @@ struct Machine {
     attrs: BTreeMap<u64, Attrs>,
 }
 
+/// What the full list answers, and the rule that decides, 0 if none agrees. No number
+/// where the earlier answer is kept.
+pub struct Decided {
+    pub answer: Answer,
+    pub rule: Option<usize>,
+}
+
 impl Machine {
-    async fn new(rules: &[Value], disconnect: bool) -> Machine {
+    /// Panics if one of the rules is no rule.
+    pub async fn new(rules: &[Value], disconnect: bool) -> Machine {
         let (mut plain, mut open) = (Vec::new(), Vec::new());
         for k in 0..=rules.len() {
             if k < rules.len() {
@@ -74,7 +82,7 @@ impl Machine {
         self.attrs.remove(&session);
     }
 
-    async fn ask(&self, q: &Question) -> (&'static str, usize) {
+    pub async fn ask(&self, q: &Question) -> Decided {
         logged::take();
         let got = self.full.ask(q).await;
         let logged = logged::take();
@@ -85,13 +93,13 @@ impl Machine {
                 _ => Answer::NotAuthorized,
             };
             assert_eq!(got, earlier);
-            return ("kept", 0);
+            return Decided { answer: got, rule: None };
         }
         let rule = self.deciding(q, got).await;
         if logged::started() && q.kind != Kind::Connect {
             assert_eq!(logged.map_or(0, |index| index + 1), rule, "the index in the plugin's log");
         }
-        (word(q.kind, got), rule)
+        Decided { answer: got, rule: Some(rule) }
     }
 
     /// The least k such that the first k rules answer alike with and without
@@ -182,7 +190,10 @@ pub async fn run(input: &[u8], options: Options) -> String {
 async fn step(machine: &mut Machine, line: &[u8]) -> (&'static str, usize) {
     match event::read(line) {
         Err(number) => return ("error", number as usize),
-        Ok(Event::Ask(q)) => return machine.ask(&q).await,
+        Ok(Event::Ask(q)) => {
+            let Decided { answer, rule } = machine.ask(&q).await;
+            return rule.map_or(("kept", 0), |rule| (word(q.kind, answer), rule));
+        }
         Ok(Event::Connected(session, id)) => machine.connected(session, &id).await,
         Ok(Event::Disconnected(session, id)) => machine.disconnected(session, &id).await,
         Ok(Event::Ended(session)) => machine.ended(session),

@@ -43,7 +43,7 @@ fn string(r: &mut Random, text: &str, escapes: usize) -> Vec<u8> {
 }
 
 /// Each letter in either case, or the word as it is.
-fn odd_case(r: &mut Random, word: &str) -> String {
+pub(crate) fn odd_case(r: &mut Random, word: &str) -> String {
     if r.percent(40) {
         return word.into();
     }
