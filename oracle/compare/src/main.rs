@@ -8,8 +8,8 @@
 //! lines, then random ones for a quarter. With the plugin: R, whether a line is
 //! a rule; I, whether it means a client. First all combinations of a rule's parts,
 //! then random ones for a quarter. And O, opening a store for a rule text; Q, the
-//! three questions on it: random ones for a quarter. Exit status 1 if anything
-//! differs.
+//! three questions on it. First all short lists, then random ones for a quarter.
+//! With --only the phases that name the kind. Exit status 1 if anything differs.
 
 mod phases;
 mod tally;
@@ -75,6 +75,7 @@ fn main() -> ExitCode {
     phase("R, all combinations of a few parts", &mut all, &phases::short_rules);
     phase("R and I, all combinations of a few users and clients", &mut all, &phases::short_identities);
     phase("R and I, all damages of a few rules", &mut all, &phases::damaged_rules);
+    phase("O and Q, all lists of up to two rules of a few parts", &mut all, &phases::short_questions);
     let part = || Instant::now() + Duration::from_secs(seconds) / 4;
     phase(&format!("V, T and P, random, seed {seed}"), &mut all, &|| phases::random(seed, part()));
     phase(&format!("J and L, random, seed {seed}"), &mut all, &|| phases::random_lines(seed, part()));

@@ -332,6 +332,23 @@ fn compare_question(
     tally.count_question(asked.kind, rust, port, || reduced(list, asked));
 }
 
+/// O and Q of all lists of up to two rules of a few parts.
+pub fn short_questions() -> Tally {
+    const BLOCK: usize = 64;
+    let (lists, asked) = (questions::short::lists(), questions::short::questions());
+    in_blocks(|block, tally| {
+        let Some(lists) = lists.chunks(BLOCK).nth(block) else { return false };
+        let runtime = runtime();
+        for list in lists {
+            let mut store = Store::new(2_048);
+            compare_open(&mut store, &list.text(), tally);
+            let machine = list.machine(&runtime);
+            asked.iter().for_each(|asked| compare_question(list, &machine, &runtime, &store, asked, tally));
+        }
+        true
+    })
+}
+
 /// O and Q of random rule lists, until the time is up.
 pub fn random_questions(seed: u64, until: Instant) -> Tally {
     in_blocks(|block, tally| {

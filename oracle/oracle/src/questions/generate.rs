@@ -118,7 +118,7 @@ pub fn list(r: &mut Random) -> List {
         1..=19 => 9 + r.below(40),
         _ => r.below(9),
     };
-    let mut list = List { lines: Vec::new(), disconnect: r.percent(50) };
+    let mut list = List { lines: Vec::new(), ends: r.percent(50), disconnect: r.percent(50) };
     while list.lines.len() < most {
         // In a long list few rules agree, so that a late one can decide.
         let few = most > 8 && r.percent(90);

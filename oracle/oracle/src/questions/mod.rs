@@ -2,6 +2,7 @@
 //! `decide::Machine` asks it.
 
 pub mod generate;
+pub mod short;
 
 use rmqtt::types::{ClientId, Id, Password, QoS, RemoteAddr, UserName};
 use serde_json::Value;
@@ -18,12 +19,18 @@ pub const ROOM: usize = 32_768;
 #[derive(Clone, Debug)]
 pub struct List {
     pub lines: Vec<Vec<u8>>,
+    /// Does LF end the last line too?
+    pub ends: bool,
     pub disconnect: bool,
 }
 
 impl List {
     pub fn text(&self) -> Vec<u8> {
-        self.lines.join(&b'\n')
+        let mut text = self.lines.join(&b'\n');
+        if self.ends && !self.lines.is_empty() {
+            text.push(b'\n');
+        }
+        text
     }
 
     pub fn size(&self) -> usize {
