@@ -38,7 +38,7 @@ first-small true b n e = let h : 1 ≡ n = cc in omega arith
 first-small false true n e = let h : 2 ≡ n = cc in omega arith
 first-small false false n e = let z : _≡_ {A = ℕ} 0 1 = cc in omega arith
 
-first-none : (a b : Bool) → first ((a, 1) ∷ (b, 2) ∷ []) ≡ none → b ≡ false
+pub first-none : (a b : Bool) → first ((a, 1) ∷ (b, 2) ∷ []) ≡ none → b ≡ false
 unfolding first
 first-none true b e = cc
 first-none false true e = cc

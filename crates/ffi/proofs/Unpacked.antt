@@ -1,0 +1,118 @@
+-- From its number an answer of a question is read back, so that no two have the same. Assumes nothing.
+use Prim.Native.Nat.{ℕ, zero, suc, _+_, _*_, _/_, _%_, _≤_}
+use mathlib.Core.Path.{_≡_, refl, ap, _∙_}
+use mathlib.Core.Bool.{Bool, true, false, _||_, cond}
+use mathlib.Core.List.{List}
+use mathlib.Core.Option.{Option, none, some}
+use native.Mathlib.Nat.{mul-add-div, mul-add-mod-self-left}
+use native.Mathlib.Omega.{arith}
+use borrow.Author.Tests.{ltb-false}
+use lib.Dec.{ltb, eqb}
+use Rattle.text.proofs.Laws.{or-split}
+use Rattle.rule.specs.Limits.{textLimit}
+use Rattle.rule.specs.Rule.{Meaning}
+use Rattle.rule.specs.Identity.{superuser}
+use Rattle.store.specs.Store.{over, View}
+use Rattle.store.specs.View.{view}
+use Rattle.questions.specs.Question.{Question, connect, subscribe, publish, codeLimit, qosLimit, clientOver, questionCause, Decision, kept, connects, subscribes, publishes, not-authorized, unspecified-error, Reply, refuses, decides}
+use Rattle.questions.specs.Decision.{keeps, refusal, allowance, byRule, ask}
+use Rattle.questions.proofs.AskLaws.{refuses-by, refuses-malformed, keeps-by, decides-by}
+use Rattle.ffi.specs.Answers.{decisionNumber, packed}
+use Rattle.ffi.proofs.AnswerLaws.{first-none}
+
+-- ---- reading back
+
+-- by what is answered, and the rule, code or number beside it
+unfoldable pub unpackedBy : ℕ → ℕ → Reply
+unpackedBy what v =
+    cond (eqb what 0) (refuses v 0)
+    (cond (eqb what 1) (decides (kept v))
+    (cond (eqb what 2) (decides (connects v false))
+    (cond (eqb what 3) (decides (connects v true))
+    (cond (eqb what 4) (decides (subscribes v 0))
+    (cond (eqb what 5) (decides (subscribes v 1))
+    (cond (eqb what 6) (decides (subscribes v 2))
+    (cond (eqb what 7) (decides (publishes v))
+    (cond (eqb what 8) (decides (not-authorized v none))
+    (cond (eqb what 9) (decides (not-authorized v (some false)))
+    (cond (eqb what 10) (decides (not-authorized v (some true))) (decides (unspecified-error v))))))))))))
+
+unfoldable pub unpacked : ℕ → Reply
+unpacked n = unpackedBy (n % 16) (n / 16)
+
+back : (what v : ℕ) → what % 16 ≡ what → what / 16 ≡ 0 → unpacked (16 * v + what) ≡ unpackedBy what v
+unfolding unpacked
+back what v m d =
+    let low = mul-add-mod-self-left 16 v what ∙ m in
+    let none-left : v + what / 16 ≡ v = omega arith in
+    let high = mul-add-div {m = 16} (omega arith) v what ∙ none-left in
+    λ i. unpackedBy (low i) (high i)
+
+-- ---- what a question is answered
+
+data Answered : Reply → Type 0 where
+  by-number : (n : ℕ) → Answered (refuses n 0)
+  by-code : (code : ℕ) → Answered (decides (kept code))
+  connected : (rule : ℕ) (flag : Bool) → Answered (decides (connects rule flag))
+  subscribed : (rule qos : ℕ) → qos ≤ 2 → Answered (decides (subscribes rule qos))
+  published : (rule : ℕ) → Answered (decides (publishes rule))
+  denied : (rule : ℕ) (disconnect : Option Bool) → Answered (decides (not-authorized rule disconnect))
+  failed : (rule : ℕ) → Answered (decides (unspecified-error rule))
+
+answered-back : {r : Reply} → Answered r → unpacked (packed r) ≡ r
+unfolding packed decisionNumber unpackedBy
+answered-back (by-number n) = let e : 16 * (n + 256 * 0) ≡ 16 * n + 0 = omega arith in ap unpacked e ∙ back 0 n refl refl
+answered-back (by-code code) = back 1 code refl refl
+answered-back (connected rule false) = back 2 rule refl refl
+answered-back (connected rule true) = back 3 rule refl refl
+answered-back (subscribed rule zero h) = back 4 rule refl refl
+answered-back (subscribed rule (suc zero) h) = back 5 rule refl refl
+answered-back (subscribed rule (suc (suc zero)) h) = back 6 rule refl refl
+answered-back (subscribed rule (suc (suc (suc n))) h) = absurd (omega arith)
+answered-back (published rule) = back 7 rule refl refl
+answered-back (denied rule none) = back 8 rule refl refl
+answered-back (denied rule (some false)) = back 9 rule refl refl
+answered-back (denied rule (some true)) = back 10 rule refl refl
+answered-back (failed rule) = back 11 rule refl refl
+
+refusal-answered : (q : Question) (n : ℕ) → Answered (decides (refusal q n))
+unfolding refusal
+refusal-answered (connect earlier c) n = denied n none
+refusal-answered (subscribe earlier c topic qos) n = failed n
+refusal-answered (publish earlier c topic disconnect) n = denied n (some disconnect)
+
+allowance-answered : (q : Question) (n : ℕ) (r : Meaning) → questionCause q ≡ none → Answered (decides (allowance q n r))
+unfolding allowance questionCause
+allowance-answered (connect earlier c) n r e = connected n (superuser r)
+allowance-answered (subscribe earlier c topic qos) n r e =
+    let k = or-split (ltb codeLimit earlier) (ltb qosLimit qos) (first-none (clientOver c || over textLimit topic) _ e) in
+    subscribed n qos (ltb-false qosLimit qos (k .1))
+allowance-answered (publish earlier c topic disconnect) n r e = published n
+
+by-rule-answered : (q : Question) (o : Option (ℕ × Meaning)) → questionCause q ≡ none → Answered (decides (byRule q o))
+unfolding byRule
+by-rule-answered q none e = refusal-answered q 0
+by-rule-answered q (some f) e = by (f .1 .allow)
+  where
+    by : (b : Bool) → Answered (decides (cond b (allowance q (suc (f .0)) (f .1)) (refusal q (suc (f .0)))))
+    by true = allowance-answered q (suc (f .0)) (f .1) e
+    by false = refusal-answered q (suc (f .0))
+
+laid-answered : (q : Question) (s : List ℕ) (v : View) → questionCause q ≡ none → view s ≡ some v → (o : Option ℕ) → keeps q ≡ o → Answered (ask q s)
+laid-answered q s v e h (some code) k = rw (keeps-by q s e h k) (by-code code)
+laid-answered q s v e h none k = rw (decides-by q s e h k) (by-rule-answered q _ e)
+
+view-answered : (q : Question) (s : List ℕ) → questionCause q ≡ none → (o : Option View) → view s ≡ o → Answered (ask q s)
+view-answered q s e none h = rw (refuses-malformed q s e h) (by-number 3)
+view-answered q s e (some v) h = laid-answered q s v e h (keeps q) refl
+
+answered : (q : Question) (s : List ℕ) → Answered (ask q s)
+answered q s = by (questionCause q) refl
+  where
+    by : (o : Option ℕ) → questionCause q ≡ o → Answered (ask q s)
+    by (some n) e = rw (refuses-by q s e) (by-number n)
+    by none e = view-answered q s e (view s) refl
+
+-- every answer of a question, on any store, is what its number says
+pub read-back : (q : Question) (s : List ℕ) → unpacked (packed (ask q s)) ≡ ask q s
+read-back q s = answered-back (answered q s)
