@@ -1,0 +1,109 @@
+/* Times the check behind number 3 and the questions on a store, beside a plain scan of its bytes and the reading of its rules, in one
+   run. store [WHAT REPEATS]: one row alone, for a profiler. Linked with target/staticlib/libffi.a. */
+#include <stdbool.h>
+#include <stdint.h>
+#include <stdio.h>
+#include <stdlib.h>
+#include <string.h>
+#include <time.h>
+
+typedef const uint8_t *Text;
+uint32_t acl_open(uint8_t *, size_t, uint64_t, uint64_t, uint64_t, uint64_t, Text, size_t);
+uint32_t acl_connect(Text, size_t, uint64_t, Text, size_t, bool, Text, size_t, bool, Text, size_t, bool, Text, size_t, uint8_t);
+uint32_t acl_publish(Text, size_t, uint64_t, Text, size_t, bool, Text, size_t, bool, Text, size_t, bool, Text, size_t, bool, uint8_t,
+                     Text, size_t, bool);
+uint8_t acl_rule_refusal(Text, size_t);
+
+static volatile uint32_t sink;
+static uint8_t *store;
+static size_t length;
+static char rules[32769];
+
+static void number(uint8_t *at, unsigned n) { at[0] = n % 256; at[1] = n / 256; }
+
+/* A rule with a template and a filter, or, in the largest text, one with eight filters. */
+static void write_rules(unsigned count) {
+    rules[0] = 0;
+    for (unsigned i = 0; i < count; i++) {
+        char line[200];
+        if (count < 256)
+            sprintf(line, "[\"allow\",{\"user\":\"u%u\"},\"publish\",[\"bench/%%c/set%u\",\"a/b%u/#\"]]\n", i, i, i);
+        else
+            sprintf(line, "[\"allow\",{\"user\":\"u%u\"},\"all\",[\"a/b%u/#\",\"b/c/+\",\"c/d\",\"d/e\",\"e/f/#\",\"f/+/g\",\"g/h\",\"h/i/j\"]]\n", i, i);
+        strcat(rules, line);
+    }
+}
+
+/* A store with so many rules, of whose rows this share (in percent) is used. */
+static void make(unsigned R, unsigned F, unsigned E, unsigned N, unsigned count, unsigned share) {
+    free(store);
+    length = 16 + R + 326ul * F + 260ul * E + 260ul * N;
+    store = calloc(length, 1);
+    write_rules(count);
+    if (acl_open(store, length, R, F, E, N, (Text)rules, strlen(rules)) != 0) exit(1);
+    unsigned used[3] = {F * share / 100, E * share / 100, N * share / 100};
+    uint8_t *row = store + 16 + R;
+    for (unsigned i = 0; i < used[0]; i++, row += 326) {
+        number(row, i % count);
+        number(row + 2, sprintf((char *)row + 6, "bench/g%u/set%u", i, i % count));
+        number(row + 4, sprintf((char *)row + 262, "g%u", i));
+    }
+    row = store + 16 + R + 326ul * F;
+    for (unsigned i = 0; i < used[1]; i++, row += 260) { number(row, i % count); number(row + 2, sprintf((char *)row + 4, "eq/%u", i)); }
+    row = store + 16 + R + 326ul * F + 260ul * E;
+    for (unsigned i = 0; i < used[2]; i++, row += 260) { number(row, i % 256); number(row + 2, sprintf((char *)row + 4, "bench/g%u/set", i)); }
+    for (int i = 0; i < 3; i++) number(store + 10 + 2 * i, used[i]);
+}
+
+/* A question of client g1; a kept code is answered once the store is checked. */
+static uint32_t asks(const char *name, unsigned earlier) {
+    return acl_publish(store, length, earlier, (Text) "g1", 2, true, (Text)name, strlen(name), false, NULL, 0, false, NULL, 0, true, 4,
+                       (Text) "bench/g1/set1", 13, true);
+}
+
+static uint32_t once(const char *what) {
+    uint32_t sum = 0;
+    __asm__ volatile("" ::: "memory");
+    if (!strcmp(what, "scan"))
+        for (size_t i = 0; i < length; i++) sum |= store[i];
+    if (!strcmp(what, "read"))
+        for (char *line = rules, *end; (end = strchr(line, '\n')); line = end + 1) sum += acl_rule_refusal((Text)line, end - line);
+    if (!strcmp(what, "check")) sum = asks("u1", 2);
+    if (!strcmp(what, "second")) sum = asks("u1", 0);
+    if (!strcmp(what, "none")) sum = asks("nobody", 0);
+    return sum;
+}
+
+static double time_of(const char *what, long repeats) {
+    struct timespec a, b;
+    clock_gettime(CLOCK_MONOTONIC, &a);
+    for (long i = 0; i < repeats; i++) sink = once(what);
+    clock_gettime(CLOCK_MONOTONIC, &b);
+    return ((b.tv_sec - a.tv_sec) * 1e9 + (b.tv_nsec - a.tv_nsec)) / repeats;
+}
+
+static void row(const char *name, unsigned R, unsigned F, unsigned E, unsigned N, unsigned count, unsigned share, long repeats) {
+    make(R, F, E, N, count, share);
+    double floor = time_of("scan", repeats) + time_of("read", repeats);
+    printf("%-34s %9.0f", name, floor);
+    const char *asked[] = {"check", "second", "none"};
+    for (int i = 0; i < 3; i++) { double t = time_of(asked[i], repeats); printf(" %11.0f %5.2f", t, t / floor); }
+    printf("\n");
+}
+
+int main(int count, char **words) {
+    if (count == 3) {
+        make(2048, 64, 32, 64, 10, 50);
+        for (long i = atol(words[2]); i > 0; i--) sink = once(words[1]);
+        return 0;
+    }
+    printf("ns a call, and as a multiple of       scan +       check       publish, rule 2   publish, no rule\n");
+    printf("one scan and one reading               read\n");
+    row("decide's store, 2 rules, half used", 2048, 64, 32, 64, 2, 50, 3000);
+    row("decide's store, 10 rules, half used", 2048, 64, 32, 64, 10, 50, 3000);
+    row("R 32,768, 256 rules of 8 filters", 32768, 64, 32, 64, 256, 50, 300);
+    row("64 rows a table, all used", 2048, 64, 64, 64, 10, 100, 1000);
+    row("512 rows a table, all used", 2048, 512, 512, 512, 10, 100, 20);
+    row("4,096 rows a table, all used", 2048, 4096, 4096, 4096, 10, 100, 3);
+    return 0;
+}
