@@ -57,6 +57,9 @@ const ROWS: [(&str, &str); 43] = [
     ("Q", "intended: 2, range"),
 ];
 
+/// So many differences of a row of Q are reduced, on each processor: it takes its time.
+const REDUCED: u64 = 20;
+
 /// A case that differs.
 enum Asked {
     Match(Case),
@@ -179,7 +182,7 @@ impl Tally {
         }
     }
 
-    /// Counts one question of Q; of one that differs `reduce` makes the smallest.
+    /// Counts one question of Q; of the first that differ `reduce` makes small ones.
     pub fn count_question(
         &mut self,
         kind: QuestionKind,
@@ -201,9 +204,11 @@ impl Tally {
             (_, Reply::Refused(number)) => 40 + number as usize,
         };
         self.cases[row] += 1;
-        if rust.number() != port {
+        if rust.number() != port && self.differences[row] < REDUCED {
             let (list, asked, rust, port) = reduce();
             self.differ(row, Asked::Question(list, asked, rust, port));
+        } else if rust.number() != port {
+            self.differences[row] += 1;
         }
     }
 
