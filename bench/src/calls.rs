@@ -1,15 +1,19 @@
 //! What is timed: for each kind the port's call, the original's, and none.
 
+use std::future::Future;
 use std::hint::black_box;
+use std::pin::pin;
 use std::str::FromStr;
+use std::task::{Context, Poll, Waker};
 
+use rmqtt::hook::{HookResult, Parameter};
 use rmqtt::topic::Topic;
 use rmqtt_acl::exposed::Rule;
 use serde_json::Value;
 
-use crate::inputs::Input;
+use crate::inputs::{Input, List};
 
-pub const KINDS: [&str; 7] = ["V", "T", "P", "P-parsed", "J", "R", "R-parsed"];
+pub const KINDS: [&str; 9] = ["V", "T", "P", "P-parsed", "J", "R", "R-parsed", "Q-2", "Q-10"];
 
 /// What the original does in each kind, for the reader of the table.
 pub const LEGEND: &str = "\
@@ -19,7 +23,9 @@ P         plain match: Topic::from_str of the filter, then matches_str
 P-parsed  plain match: matches_str of a filter that was parsed beforehand
 J         a line of JSON: serde_json::from_slice::<Value>
 R         a rule line and its users: serde_json::from_slice, Rule::try_from, then Rule::hit
-R-parsed  a rule line and its users: Rule::try_from of a value that was parsed beforehand, then Rule::hit";
+R-parsed  a rule line and its users: Rule::try_from of a value that was parsed beforehand, then Rule::hit
+Q-2       may a client publish, the last of 2 rules or none decides: AclHandler::hook, its rules read beforehand
+Q-10      the same, of 10 rules";
 
 /// Goes through the inputs until `n` calls are made; the number of yes.
 fn repeat(inputs: &[Input], n: usize, call: impl Fn(&Input) -> bool) -> usize {
@@ -37,6 +43,8 @@ pub fn bytes(kind: &str, inputs: &[Input]) -> f64 {
         "V" => i.checked.len(),
         "J" => i.line.len(),
         "R" | "R-parsed" => i.rule.len(),
+        "Q-2" => i.lists[0].text + i.text.len(),
+        "Q-10" => i.lists[1].text + i.text.len(),
         _ => i.filter.len() + i.text.len(),
     };
     inputs.iter().map(of).sum::<usize>() as f64 / inputs.len() as f64
@@ -49,6 +57,35 @@ fn checked(text: &str) -> Topic {
 /// Is the value a rule that means the client?
 fn hits(value: &Value, i: &Input) -> bool {
     Rule::try_from(value).is_ok_and(|rule| rule.hit(&i.id, None, Some(4), true).0)
+}
+
+/// The future's result; it waits for nothing.
+fn ready<T>(future: impl Future<Output = T>) -> T {
+    match pin!(future).poll(&mut Context::from_waker(Waker::noop())) {
+        Poll::Ready(result) => result,
+        Poll::Pending => panic!("it waits"),
+    }
+}
+
+/// The packed answer of the port: is it that a rule allows?
+fn port_publishes(list: &List, i: &Input) -> bool {
+    let none: (bool, &[u8]) = (false, &[]);
+    let client = port::Client {
+        earlier: 0,
+        id: i.client.as_bytes(),
+        name: (true, i.name.as_bytes()),
+        password: none,
+        address: none,
+        protocol: (true, 4),
+    };
+    port::publish(&list.store, client, i.text.as_bytes(), true) % 16 == 7
+}
+
+fn rust_publishes(list: &List, i: &Input) -> bool {
+    match ready(list.handler.hook(&Parameter::MessagePublishCheckAcl(&i.session, &i.publish), None)) {
+        (false, Some(HookResult::PublishAclResult(result))) => result.is_allow(),
+        _ => panic!("no answer"),
+    }
 }
 
 /// Makes exactly `n` calls. The side is `port`, `rust`, or `none`, which makes
@@ -73,10 +110,14 @@ pub fn run(kind: &str, side: &str, inputs: &[Input], n: usize) -> usize {
             let (name, none) = ((true, i.name.as_bytes()), (false, &[][..]));
             port::identity(i.rule.as_bytes(), i.client.as_bytes(), name, none, none, (true, 4)) == 1
         }),
-        ("R", "rust") => {
-            repeat(inputs, n, |i| serde_json::from_slice(i.rule.as_bytes()).is_ok_and(|value| hits(&value, i)))
-        }
+        ("R", "rust") => repeat(inputs, n, |i| {
+            serde_json::from_slice(i.rule.as_bytes()).is_ok_and(|value| hits(&value, i))
+        }),
         ("R-parsed", "rust") => repeat(inputs, n, |i| hits(&i.value, i)),
+        ("Q-2", "port") => repeat(inputs, n, |i| port_publishes(&i.lists[0], i)),
+        ("Q-2", "rust") => repeat(inputs, n, |i| rust_publishes(&i.lists[0], i)),
+        ("Q-10", "port") => repeat(inputs, n, |i| port_publishes(&i.lists[1], i)),
+        ("Q-10", "rust") => repeat(inputs, n, |i| rust_publishes(&i.lists[1], i)),
         (kind, side) => panic!("no such call: {kind} {side}"),
     }
 }

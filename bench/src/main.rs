@@ -1,4 +1,5 @@
 //! bench                                  the table, instructions by callgrind
+//! bench --only KIND..                    these kinds
 //! bench --count KIND SIZE ANSWER SIDE N  exactly N calls, to count or profile
 
 mod calls;
@@ -75,11 +76,11 @@ fn row(kind: &str, size: &str, answer: &str) -> Result<(), String> {
     Ok(())
 }
 
-fn table() -> Result<(), String> {
+fn table(kinds: &[&str]) -> Result<(), String> {
     println!("{LEGEND}\n");
     println!("                              ns a call              ns a byte   instructions a call");
     println!("kind      size     answer     port     Rust  ratio   port   Rust     port     Rust  ratio");
-    for kind in KINDS {
+    for kind in kinds {
         for size in SIZES {
             for answer in ["yes", "no"] {
                 row(kind, size, answer)?;
@@ -93,7 +94,8 @@ fn main() -> ExitCode {
     let args: Vec<String> = std::env::args().skip(1).collect();
     let args: Vec<&str> = args.iter().map(String::as_str).collect();
     let result = match args[..] {
-        [] => table(),
+        [] => table(&KINDS),
+        ["--only", ref kinds @ ..] => table(kinds),
         ["--count", kind, size, answer, side, n] => match n.parse() {
             Ok(n) => {
                 run(kind, side, &inputs(size, answer == "yes"), n);
@@ -101,7 +103,7 @@ fn main() -> ExitCode {
             }
             Err(_) => Err(format!("not a number: {n}")),
         },
-        _ => Err("bench [--count KIND SIZE ANSWER SIDE N]".into()),
+        _ => Err("bench [--only KIND.. | --count KIND SIZE ANSWER SIDE N]".into()),
     };
     match result {
         Ok(()) => ExitCode::SUCCESS,

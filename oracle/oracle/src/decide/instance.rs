@@ -34,7 +34,7 @@ impl Instance {
         Instance { scx, _plugin: plugin, cfg }
     }
 
-    fn handler(&self, hook: Type) -> Arc<dyn Handler> {
+    pub fn handler(&self, hook: Type) -> Arc<dyn Handler> {
         self.scx.extends.hook_mgr().handler(hook)
     }
 

@@ -13,7 +13,8 @@ use rmqtt_acl::exposed::Rule;
 use serde_json::{json, Value};
 
 use event::Event;
-use instance::{Attrs, Instance};
+use instance::Attrs;
+pub use instance::Instance;
 pub use question::{Answer, Kind, Question};
 
 /// Where the plugin keeps the notes of a session (its `CACHE_KEY`).
