@@ -1,5 +1,5 @@
 -- The texts that are given are those of the flags; every answer is small. Assumes nothing.
-use mathlib.Core.Path.{sym, ap, _∙_}
+use mathlib.Core.Path.{ap, _∙_}
 use mathlib.Core.Option.{some}
 use denote.Ref.{now}
 use Rattle.questions.specs.Question.{connect}
@@ -28,7 +28,13 @@ connect-number-requires c κs = rw (c .connect .ensures) (answer-small _ _)
 returns : tie.Need-returns
 returns c =
     let a = c .before .before .before .before .before .before .before .before .before .before .args in
-    c .connect-number .ensures ∙ ap packed (c .before .connect .ensures ∙ (λ i. ask (connect (a .earlier) (record { id = now (a .id); name = c .before .before .before .before .given-text .ensures i; password = c .before .before .before .given-text2 .ensures i; address = c .before .before .given-text3 .ensures i; protocol = some (a .protocol) })) (now (a .store))))
+    let name = c .before .before .before .before .given-text .ensures in
+    let password = c .before .before .before .given-text2 .ensures in
+    let address = c .before .before .given-text3 .ensures in
+    c .connect-number .ensures
+    ∙ ap packed
+    (c .before .connect .ensures
+    ∙ (λ i. ask (connect (a .earlier) (record { id = now (a .id); name = name i; password = password i; address = address i; protocol = some (a .protocol) })) (now (a .store))))
 
 pub acl-connect-spec : {M : Type 1} → statement M
 acl-connect-spec =

@@ -1,11 +1,11 @@
 -- The texts and the protocol that are given are those of the flags; every answer is small. Assumes nothing.
-use mathlib.Core.Path.{sym, ap, _∙_}
-use mathlib.Core.Option.{some}
+use mathlib.Core.Path.{ap, _∙_}
 use denote.Ref.{now}
 use Rattle.questions.specs.Question.{publish}
 use Rattle.questions.specs.Decision.{ask}
 use Rattle.questions.specs.Parts.{protocolOf}
 use Rattle.ffi.specs.Answers.{packed}
+use Rattle.ffi.specs.Rules.{where-true}
 use Rattle.ffi.proofs.AnswerLaws.{answer-small, protocol-placed}
 use borrow.Author.Needs.{needs}
 use Rattle.ffi.proofs.acl_publish.Statement.{statement}
@@ -32,7 +32,14 @@ publish-number-requires c κs = rw (c .publish .ensures) (answer-small _ _)
 returns : tie.Need-returns
 returns c =
     let a = c .before .before .before .before .before .before .before .before .before .before .before .before .args in
-    c .publish-number .ensures ∙ ap packed (c .before .publish .ensures ∙ (λ i. ask (publish (a .earlier) (record { id = now (a .id); name = c .before .before .before .before .before .given-text .ensures i; password = c .before .before .before .before .given-text2 .ensures i; address = c .before .before .before .given-text3 .ensures i; protocol = (ap protocolOf (c .before .before .given-protocol .ensures) ∙ protocol-placed _) i }) (now (a .topic)) (a .disconnect)) (now (a .store))))
+    let name = c .before .before .before .before .before .given-text .ensures in
+    let password = c .before .before .before .before .given-text2 .ensures in
+    let address = c .before .before .before .given-text3 .ensures in
+    let protocol = ap protocolOf (c .before .before .given-protocol .ensures) ∙ protocol-placed (where-true (a .has-protocol) (a .protocol)) in
+    c .publish-number .ensures
+    ∙ ap packed
+    (c .before .publish .ensures
+    ∙ (λ i. ask (publish (a .earlier) (record { id = now (a .id); name = name i; password = password i; address = address i; protocol = protocol i }) (now (a .topic)) (a .disconnect)) (now (a .store))))
 
 pub acl-publish-spec : {M : Type 1} → statement M
 acl-publish-spec =
