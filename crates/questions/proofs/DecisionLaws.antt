@@ -2,39 +2,39 @@
 -- Assumes nothing.
 use Prim.Native.Nat.{ℕ, zero, suc, _+_, _-_, _≤_, _<_}
 use mathlib.Core.Path.{_≡_, refl, sym, ap, subst, _∙_}
-use mathlib.Core.Bool.{Bool, true, false, _&&_, _||_, not, cond, and-assoc, or-true, true≢false}
+use mathlib.Core.Bool.{Bool, true, false, _&&_, _||_, not, cond, and-assoc, or-true}
 use mathlib.Core.List.{List, [], _∷_, map}
 use mathlib.Core.Option.{Option, none, some, bind, Option·map}
 use native.Mathlib.Nat.{sub-zero, add-sub-cancel, add-sub-cancel-left}
 use native.Mathlib.Numerals.{add-one}
 use native.Mathlib.Omega.{arith}
-use borrow.Author.Tests.{eq-eqb, ne-eqb, leb-true, lt-leb, ltb-false}
-use lib.Dec.{leb, ltb}
+use borrow.Author.Tests.{eq-eqb, ne-eqb, leb-true, lt-leb}
+use lib.Dec.{leb}
 use lib.ListN.{length, take, drop, length-drop}
 use Rattle.text.specs.Text.{same}
 use Rattle.topic.specs.Topic.{treeMatch}
-use Rattle.json.specs.Json.{Json, null, bool, number as digits, text, array, object, Elements, no-element, element, skipBlanks, depthLimit, lineValue, longest, longestElement}
+use Rattle.json.specs.Json.{Elements, no-element, element, depthLimit, lineValue, longest, longestElement}
 use Rattle.json.specs.Access.{firstItem, nextItem}
 use Rattle.json.specs.Lines.{lineAt, nextLine}
 use Rattle.json.specs.declared.Place.{Place}
 use Rattle.json.specs.declared.Place.the-variants.{At, Nowhere}
 use Rattle.json.proofs.ValueLaws.{value-next}
-use Rattle.json.proofs.AccessLaws.{elementPlace, ElementsIn, array-is, line-is}
+use Rattle.json.proofs.AccessLaws.{elementPlace, ElementsIn, array-is}
 use Rattle.json.proofs.LineLaws.{lines-here, lines-past, next-within, next-after}
 use Rattle.table.specs.Table.{some-row}
 use Rattle.table.specs.Bytes.{number, rows}
 use Rattle.table.proofs.RowLaws.{rows-step, rows-short}
-use Rattle.rule.specs.Limits.{lineLimit, textLimit}
-use Rattle.rule.specs.Rule.{Value, Topic, Rule, Meaning, means, topicMeans, nth, asArray, accessOf, usersOf, controlOf, topicOf, topicsIn, topicsOf, ruleIn, ruleOf}
-use Rattle.rule.specs.RuleText.{Result, refused, gives, topicsOver, orNotARule, ruleFrom, readRule, ruleOn, rulesOf}
+use Rattle.rule.specs.Limits.{textLimit}
+use Rattle.rule.specs.Rule.{Value, Topic, Rule, Meaning, means, topicMeans, asArray, topicOf, topicsIn, topicsOf}
+use Rattle.rule.specs.RuleText.{Result, refused, gives, readRule, ruleOn, rulesOf}
 use Rattle.rule.specs.Identity.{Client, agrees, superuser}
-use Rattle.rule.specs.Places.{placedTopic, topicAnswer, isTopic, topicsPlace, elementsOf, fourthOf}
+use Rattle.rule.specs.Places.{topicsPlace, fourthOf}
 use Rattle.rule.specs.declared.Control.{Control}
 use Rattle.rule.specs.declared.Control.the-variants.{All as AllControl, Connect as ConnectControl, Publish as PublishControl, Subscribe as SubscribeControl, Pubsub}
 use Rattle.rule.specs.declared.Topics.{Topics}
 use Rattle.rule.specs.declared.Topics.the-variants.{All, Listed}
-use Rattle.rule.specs.declared.Refusal.the-variants.{TooLong}
-use Rattle.rule.proofs.RuleLaws.{Stands, nth-stands, value-stands, isSome, topic-is}
+use Rattle.rule.proofs.RuleLaws.{Stands, value-stands}
+use Rattle.rule.proofs.FourthLaws.{topic-under, bound, mapped, array-value, FourthIs, fourth-is}
 use Rattle.store.specs.Store.{over, FilterRow, EqRow}
 use Rattle.store.specs.Layout.{Codec, filterText, filterOwner, filterCodec, numberedText, numberedCodec, eqCodec, getAll}
 use Rattle.questions.specs.Decision.{covers, staticAgrees, eqAgrees, filterAgrees, topicsAgree, wishAgrees, ruleAgrees, firstFrom}
@@ -111,34 +111,12 @@ module _ (rule : ℕ) (topic row : List ℕ) {n : ℕ} (e : n ≡ number row) wh
 
 -- ---- the topics of a rule that was read
 
--- a text of a rule that was read is not over the limit
-topic-under : (v : Value) (t : Topic) → longest (v .value) ≤ textLimit → topicOf v ≡ some t → ltb textLimit (length (t .text .text)) ≡ false
-unfolding topicAnswer placedTopic isTopic isSome
-topic-under v t h e = at (ltb textLimit (length (t .text .text))) refl
-  where
-    is : isTopic (placedTopic t) ≡ true
-    is = sym (ap (λ (o : Option Topic). isTopic (topicAnswer o)) e) ∙ (topic-is v h ∙ ap isSome e)
-
-    at : (b : Bool) → ltb textLimit (length (t .text .text)) ≡ b → b ≡ false
-    at true q = absurd (true≢false (sym (rw q at is)))
-    at false q = refl
-
 topic-here : (topic line : List ℕ) (v : Value) (t : Topic) → Stands line (some v) → topicOf v ≡ some t → topicAgreesAt topic line (v .at) ≡ staticAgrees topic (topicMeans t)
 unfolding topicAgreesAt bind
 topic-here topic line v t h e =
     let is = ap (λ (o : Option Value). bind o topicOf) (value-stands line v h) ∙ e in
     ap (λ (o : Option Topic). elim o as (λ o. Bool) [ none ↦ false | some t ↦ not (over textLimit (t .text .text)) && staticAgrees topic (topicMeans t) ]) is
     ∙ ap (λ (b : Bool). not b && staticAgrees topic (topicMeans t)) (topic-under v t (h .2) e)
-
--- what was bound, and what was mapped
-bound : {A B : Type 0} {b : B} (o : Option A) (f : A → Option B) → bind o f ≡ some b → (a : A) × (o ≡ some a) × (f a ≡ some b)
-unfolding bind
-bound none f e = let z : _≡_ {A = ℕ} 0 1 = cc in absurd (omega arith)
-bound (some a) f e = (a, refl, e)
-
-mapped : {A B : Type 0} {b : B} (o : Option A) (f : A → B) → Option·map f o ≡ some b → (a : A) × (o ≡ some a) × (f a ≡ b)
-mapped none f e = let z : _≡_ {A = ℕ} 0 1 = cc in absurd (omega arith)
-mapped (some a) f e = (a, refl, cc)
 
 -- the topics by their places agree as those of the tree
 some-topic : (topic line : List ℕ) (most low high : ℕ) (es : Elements) (ts : List Topic) → ElementsIn line low high es → high - low ≤ most → longestElement es ≤ textLimit
@@ -154,66 +132,7 @@ some-topic topic line (suc most) low high (element at value rest) ts h k l e =
     let onward = some-topic topic line most (h .0) high rest (us .0) (h .3) (omega (arith, value-next depthLimit line at (h .2 .reads), h .1, h .2 .before)) (omega arith) (us .1) in
     (λ i. here i || (ap (someTopicFrom topic most line) (h .2 .onward) ∙ onward) i) ∙ ap (λ (us : List Topic). some-row (staticAgrees topic) (map topicMeans us)) (us .2)
 
--- the topics of a rule are those of the fourth element
-rule-topics : (es : Elements) {r : Rule} → ruleIn es ≡ some r → topicsOf (nth 3 es) ≡ some (r .topics)
-unfolding ruleIn
-rule-topics es e =
-    let allow = bound (bind (nth 0 es) accessOf) _ e in
-    let users = bound (bind (nth 1 es) (usersOf (allow .0))) _ (allow .2) in
-    let control = bound (controlOf (nth 2 es)) _ (users .2) in
-    let topics = mapped (topicsOf (nth 3 es)) _ (control .2) in
-    topics .1 ∙ ap (λ (r : Rule). some (r .topics)) (topics .2)
-
--- the fourth element of a line that gives a rule stands at its place, and has the rule's topics
-abbrev FourthIs : List ℕ → Rule → Option Value → Type 0
-FourthIs line r o = Stands line o × (topicsOf o ≡ some (r .topics))
-
-fourth-is : (line : List ℕ) {r : Rule} → readRule line ≡ gives r → FourthIs line r (fourthOf (lineValue line))
-unfolding readRule ruleFrom orNotARule ruleOf fourthOf elementsOf asArray bind longest
-fourth-is line {r} = by-length (ltb lineLimit (length line))
-  where
-    by-elements : (v : Json) → lineValue line ≡ some v → longest v ≤ textLimit → ruleOf v ≡ some r → FourthIs line r (bind (elementsOf v) (nth 3))
-    by-elements null q l e = let z : _≡_ {A = ℕ} 0 1 = cc in absurd (omega arith)
-    by-elements (bool b) q l e = let z : _≡_ {A = ℕ} 0 1 = cc in absurd (omega arith)
-    by-elements (digits n) q l e = let z : _≡_ {A = ℕ} 0 1 = cc in absurd (omega arith)
-    by-elements (text t) q l e = let z : _≡_ {A = ℕ} 0 1 = cc in absurd (omega arith)
-    by-elements (array es) q l e =
-        let s = line-is line q in
-        let a = array-is line (skipBlanks line 0) (s .1) refl in
-        (nth-stands line (skipBlanks line 0 + 1) (s .0) es 3 (a .elements) l, rule-topics es e)
-    by-elements (object ms) q l e = let z : _≡_ {A = ℕ} 0 1 = cc in absurd (omega arith)
-
-    by-rule : (v : Json) (o : Option Rule) → ruleOf v ≡ o → orNotARule o ≡ gives r → ruleOf v ≡ some r
-    by-rule v none q e = let z : _≡_ {A = ℕ} 0 1 = cc in absurd (omega arith)
-    by-rule v (some x) q e = let w : x ≡ r = cc in q ∙ ap some w
-
-    by-limits : (v : Json) (b d : Bool) → lineValue line ≡ some v → ltb textLimit (longest v) ≡ b → cond (b || d) (refused TooLong) (orNotARule (ruleOf v)) ≡ gives r
-        → FourthIs line r (bind (elementsOf v) (nth 3))
-    by-limits v true d q l e = let z : _≡_ {A = ℕ} 0 1 = cc in absurd (omega arith)
-    by-limits v false true q l e = let z : _≡_ {A = ℕ} 0 1 = cc in absurd (omega arith)
-    by-limits v false false q l e = by-elements v q (ltb-false textLimit (longest v) l) (by-rule v (ruleOf v) refl e)
-
-    by-value : (o : Option Json) → lineValue line ≡ o → ruleFrom o ≡ gives r → FourthIs line r (fourthOf o)
-    by-value none q e = let z : _≡_ {A = ℕ} 0 1 = cc in absurd (omega arith)
-    by-value (some v) q e = by-limits v (ltb textLimit (longest v)) (topicsOver v) q refl e
-
-    by-length : (b : Bool) → cond b (refused TooLong) (ruleFrom (lineValue line)) ≡ gives r → FourthIs line r (fourthOf (lineValue line))
-    by-length true e = let z : _≡_ {A = ℕ} 0 1 = cc in absurd (omega arith)
-    by-length false e = by-value (lineValue line) refl e
-
 -- ---- one line
-
-array-value : (v : Value) {es : Elements} → asArray v ≡ some es → v .value ≡ array es
-unfolding asArray
-array-value v {es} = by (v .value)
-  where
-    by : (x : Json) → asArray (record { at = v .at; value = x }) ≡ some es → x ≡ array es
-    by null e = let z : _≡_ {A = ℕ} 0 1 = cc in absurd (omega arith)
-    by (bool b) e = let z : _≡_ {A = ℕ} 0 1 = cc in absurd (omega arith)
-    by (digits n) e = let z : _≡_ {A = ℕ} 0 1 = cc in absurd (omega arith)
-    by (text t) e = let z : _≡_ {A = ℕ} 0 1 = cc in absurd (omega arith)
-    by (array fs) e = cc
-    by (object ms) e = let z : _≡_ {A = ℕ} 0 1 = cc in absurd (omega arith)
 
 module _ (someFilter : (FilterRow → Bool) → Bool) (someEq : (EqRow → Bool) → Bool) (n : ℕ) (id topic line : List ℕ) where
   -- the topics that a line has left to agree, by their place

@@ -12,8 +12,8 @@ use lib.ListN.{length, take}
 use Rattle.text.specs.Text.{same}
 use Rattle.topic.specs.Topic.{treeMatch}
 use Rattle.json.specs.Strings.{Decoded, stringAt}
-use Rattle.json.specs.Json.{Json, Read, lineValue}
-use Rattle.json.specs.Access.{valueHere, stringIs}
+use Rattle.json.specs.Json.{lineValue}
+use Rattle.json.specs.Access.{stringIs}
 use Rattle.json.proofs.AccessSteps.{is-string}
 use Rattle.rule.specs.Limits.{textLimit}
 use Rattle.rule.specs.Rule as spec
@@ -34,7 +34,8 @@ use Rattle.rule.specs.declared.RuleRead.{RuleRead}
 use Rattle.rule.specs.declared.RuleRead.the-variants.{Rule as RuleIs, Refused}
 use Rattle.rule.proofs.DecodeLaws.{Copies, Over}
 use Rattle.rule.proofs.IdentityLaws.{Stands, Listed, unlisted, listed}
-use Rattle.rule.proofs.StandsLaws.{topic-stands, identity-read}
+use Rattle.rule.proofs.StandsLaws.{identity-read}
+use Rattle.rule.proofs.FourthLaws.{topic-at-stands}
 use Rattle.rule.proofs.Topic as topic
 use Rattle.store.specs.Store.{over}
 use Rattle.questions.specs.Decision.{staticAgrees}
@@ -86,16 +87,6 @@ none-agrees asked line (Template p) h = refl
 none-agrees asked line (Eq p) h = absurd (miss (1 ∷ 3 ∷ 4 ∷ []) 2 tt h)
 none-agrees asked line (EqTemplate p) h = refl
 none-agrees asked line Bad h = refl
-
--- the text of the topic at a place stands in the line
-pub topic-at-stands : (line : List ℕ) (at : ℕ) → Listed (λ (t : spec.Topic). Stands line (t .text)) (bind (valueOf line at) topicOf)
-unfolding valueOf bind
-topic-at-stands line at = by (valueHere line at) refl
-  where
-    by : (o : Option (Read Json)) → valueHere line at ≡ o
-        → Listed (λ (t : spec.Topic). Stands line (t .text)) (bind (bind o (λ r. some (record { at = at; value = r .value }))) topicOf)
-    by none e = unlisted
-    by (some r) e = topic-stands line (record { at = at; value = r .value }) (record { next = r .next; reads = e })
 
 -- a topic agrees as its place does
 pub topic-by : (asked line : List ℕ) (at : ℕ) {answer : Topic} → topicAnswer (bind (valueOf line at) topicOf) ≡ answer

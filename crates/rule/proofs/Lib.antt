@@ -9,5 +9,6 @@ pub mod AgreementLaws
 pub mod FillLaws
 pub mod IdentityLaws
 pub mod StandsLaws
+pub mod FourthLaws
 pub mod Marked
 pub mod OnePassLaws
