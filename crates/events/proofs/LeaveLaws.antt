@@ -1,95 +1,39 @@
 -- Laws of the rows that leave: the steps of the loops of leaving.rt, and what its events do to a store as laid out. Assumes nothing.
 use Prim.Native.Nat.{ℕ, zero, suc, _+_, _-_, _*_, _≤_, _<_}
 use mathlib.Core.Path.{_≡_, refl, sym, ap, _∙_}
-use mathlib.Core.Bool.{Bool, true, false, _||_, not, cond}
+use mathlib.Core.Bool.{Bool, true, false, not, cond}
 use mathlib.Core.List.{List, [], _∷_, _++_, map, append-assoc, append-nil}
-use mathlib.Core.Option.{Option, none, some}
-use native.Mathlib.Nat.{zero-mul, sub-zero, mul-le-mul-left, mul-le-mul-right, add-sub-cancel-left}
+use mathlib.Core.Option.{none, some}
+use native.Mathlib.Nat.{zero-mul}
 use native.Mathlib.Numerals.{add-one}
 use native.Mathlib.Omega.{arith}
-use borrow.Author.Tests.{eq-eqb, ne-eqb, leb-true, lt-leb, lt-ltb, le-ltb}
+use borrow.Author.Tests.{eq-eqb, ne-eqb, lt-ltb, le-ltb}
 use lib.Dec.{eqb, leb}
 use lib.ListN.{length, take, drop, set, length-drop, length-set, length-map, take-append-drop, drop-of-length-le}
-use lib.Seq.{drop-drop, take-take, take-at, take-suc-set, drop-set-lt}
+use lib.Seq.{drop-drop, take-at, take-suc-set, drop-set-lt}
 use Rattle.text.specs.Text.{same, pasted}
 use Rattle.topic.specs.Topic.{validFilter, treeMatch}
 use Rattle.table.specs.Table.{some-row, keep, add-all, change}
 use Rattle.table.specs.Bytes.{u16, number, rows, unmarked, kept, removed}
-use Rattle.table.proofs.RowLaws.{rows-step, rows-short}
 use Rattle.rule.specs.Refusals.{number as refusal, first}
 use Rattle.rule.specs.declared.Refusal.{Refusal}
 use Rattle.rule.specs.declared.Refusal.the-variants.{TooLong, OutOfRange, Malformed as Unread}
 use Rattle.store.specs.declared.Shape.{Shape}
 use Rattle.store.specs.declared.ShapeRead.{ShapeRead}
-use Rattle.store.specs.declared.ShapeRead.the-variants.{LaidOut, Malformed}
+use Rattle.store.specs.declared.ShapeRead.the-variants.{Malformed}
 use Rattle.store.specs.Store.{storeLength, NoteRow, View}
-use Rattle.store.specs.Layout.{Codec, filterText, filterOwner, filterCodec, numberedText, numberedCodec, noteCodec, pad, putAll, getAll, area, layout, filtersAt, eqsAt, notesAt, filterPart, notePart}
+use Rattle.store.specs.Layout.{Codec, filterText, filterOwner, filterCodec, numberedText, numberedCodec, noteCodec, area, layout, filtersAt, eqsAt, notesAt, filterPart, notePart}
 use Rattle.store.specs.View.{wellFormed, view}
 use Rattle.store.specs.Check.{shapeOf}
-use Rattle.store.proofs.LayoutLaws.{pad-take, Reads, note-reads, filter-reads, put-all-length, area-back, Fits, filter-area, note-area, counts-back, layout-length, filter-part, note-part, well-formed-parts, openable-parts, well-formed-fits}
-use Rattle.store.proofs.OpenLaws.{InRange, fit-range}
-use Rattle.store.proofs.ViewLaws.{view-well-formed, view-layout, view-of-layout}
+use Rattle.store.proofs.LayoutLaws.{Reads, note-reads, filter-reads, Fits, filter-area, note-area, counts-back, layout-length, filter-part, note-part, well-formed-fits}
+use Rattle.store.proofs.ViewLaws.{view-of-layout}
 use Rattle.store.proofs.AreaLaws.{remove-count, remove-area, with-filters, with-notes}
+use Rattle.store.proofs.PartLaws.{rowsFrom, rows-more, rows-none, used-read, Shaped, shaped}
 use Rattle.events.specs.Event.{Event, disconnected, ended, argumentCauses, ofSession, clears, cleared, filterChange, newEqs, noteChange, effect, storeCauses, cause, stored, after, says}
 use Rattle.events.specs.Marks.{filterRow, filterRowsIn, noteRowsIn, marked}
 use Rattle.events.specs.declared.EventAnswer.{EventAnswer}
 use Rattle.events.specs.declared.EventAnswer.the-variants.{Done, Refused}
-
--- ---- rows from a place on
-
--- any number finds all the whole rows, if one row more wouldn't fit
-rows-enough : (size n m : ℕ) (s : List ℕ) → length s < n * size + size → length s < m * size + size → rows size n s ≡ rows size m s
-unfolding rows
-rows-enough size zero zero s k l = refl
-rows-enough size zero (suc m) s k l = rw (lt-leb size (length s) (omega arith))
-rows-enough size (suc n) zero s k l = rw (lt-leb size (length s) (omega arith))
-rows-enough size (suc n) (suc m) s k l = at (leb size (length s)) refl (λ f g. rows-enough size n m (drop size s) f g)
-  where
-    at : (b : Bool) → leb size (length s) ≡ b
-        → (length (drop size s) < n * size + size → length (drop size s) < m * size + size → rows size n (drop size s) ≡ rows size m (drop size s))
-        → cond b (take size s ∷ rows size n (drop size s)) [] ≡ cond b (take size s ∷ rows size m (drop size s)) []
-    at true e r =
-        let whole = leb-true size (length s) e in
-        let left = length-drop size s in
-        rw (r (omega arith) (omega arith))
-    at false e r = refl
-
--- as many as there are bytes
-enough : (size n : ℕ) → 0 < size → n < n * size + size
-enough size n h = omega (arith, mul-le-mul-left {m = 1} {n = size} n h)
-
--- the whole rows from a place on
-unfoldable pub rowsFrom : {Row : Type 0} → Codec Row → ℕ → List ℕ → List Row
-rowsFrom c at s = getAll c (length s) (drop at s)
-
-module _ {Row : Type 0} (c : Codec Row) (at : ℕ) (s : List ℕ) where
-  -- the first of them
-  rows-more : 0 < c .size → at + c .size ≤ length s
-      → rowsFrom c at s ≡ c .get (take (at + c .size - at) (drop at s)) ∷ rowsFrom c (at + c .size) s
-  unfolding rowsFrom getAll
-  rows-more h k =
-      let left = length-drop (at + c .size) s in
-      let more = rw sub-zero at (rows-step (c .size) (length s) 0 at s (omega arith) k) in
-      let fewer = enough (c .size) (length s - (0 + 1)) h in
-      let all = enough (c .size) (length s) h in
-      let same-rows = rows-enough (c .size) (length s - (0 + 1)) (length s) (drop (at + c .size) s) (omega arith) (omega arith) in
-      rw (more, same-rows, add-sub-cancel-left)
-
-  -- no row is left
-  rows-none : length s - at < c .size → rowsFrom c at s ≡ []
-  unfolding rowsFrom getAll
-  rows-none h = rw (rows-short (c .size) (length s) at s h)
-
-  module _ (p : Row → Bool) where
-    -- the first of them passes the test or not
-    pub some-more : {b : Bool} → 0 < c .size → at + c .size ≤ length s → p (c .get (take (at + c .size - at) (drop at s))) ≡ b
-        → some-row p (rowsFrom c at s) ≡ (b || some-row p (rowsFrom c (at + c .size) s))
-    unfolding some-row
-    some-more h k e = rw (rows-more h k, e)
-
-    pub some-none : length s - at < c .size → some-row p (rowsFrom c at s) ≡ false
-    unfolding some-row
-    some-none h = rw (rows-none h)
+use Rattle.events.proofs.StoreLaws.{argument-caused, malformed-caused}
 
 -- ---- a note by its number and its text
 
@@ -199,29 +143,9 @@ unfolding kept
 stay-few size used marks s e = omega (arith, unmarked-few marks (rows size used s), rows-few size used s)
 
 -- a table as laid out, at a place of a store
-module _ {Row : Type 0} {c : Codec Row} {bad : Row → Bool} (R : Reads c bad) (sized : 0 < c .size) (room : ℕ) (rs : List Row)
+module _ {Row : Type 0} {c : Codec Row} {bad : Row → Bool} (R : Reads c bad) (room : ℕ) (rs : List Row)
     (good : some-row bad rs ≡ false) (fits : length rs ≤ room) where
-  -- its used rows, read
-  used-rows : getAll c (length (putAll c rs)) (putAll c rs) ≡ rs
-  unfolding getAll area pad
-  used-rows =
-      let size = put-all-length R rs good in
-      let all = enough (c .size) (length (putAll c rs)) sized in
-      let same-rows = rows-enough (c .size) (length (putAll c rs)) (length rs) (putAll c rs) all (omega arith) in
-      let unpadded : 0 * c .size - length (putAll c rs) ≡ 0 = omega (arith, zero-mul (c .size)) in
-      rw same-rows (rw (unpadded, append-nil) at (area-back R 0 rs good))
-
   module _ (s : List ℕ) (at : ℕ) (p : take (room * c .size) (drop at s) ≡ area c room rs) where
-    -- the part that the code takes for them
-    used-part : take (at + length rs * c .size - at) (drop at s) ≡ putAll c rs
-    unfolding area
-    used-part =
-        rw (add-sub-cancel-left, ← take-take (length rs * c .size) (room * c .size) (drop at s) (mul-le-mul-right (c .size) fits), p, ← put-all-length R rs good)
-        (pad-take (room * c .size) (putAll c rs))
-
-    used-read : getAll c (length (take (at + length rs * c .size - at) (drop at s))) (take (at + length rs * c .size - at) (drop at s)) ≡ rs
-    used-read = rw used-part used-rows
-
     -- what the marks say of it, and what is left of it
     module _ (test : Row → Bool) (before : List ℕ) {marks : List ℕ} (m : marks ≡ marked test rs before) where
       marks-say : take (length rs) marks ≡ map (λ r. cond (test r) 1 0) rs
@@ -235,81 +159,18 @@ module _ {Row : Type 0} {c : Codec Row} {bad : Row → Bool} (R : Reads c bad) (
           let t = rw (e, p) at r in
           (t .0 ∙ remove-count R room rs good test marks marks-say, t .1 ∙ remove-area R room rs good test marks marks-say fits)
 
--- ---- a store as laid out and its shape
-
-abbrev shape-of : View → Shape
-shape-of v = record { counts = v .counts; text = length (v .text); filters = length (v .filters); eqs = length (v .eqs); notes = length (v .notes) }
-
--- the store is the layout of a view, and the shape the view's
-pub data Shaped : List ℕ → Shape → Type 0 where
-  shaped : (v : View) → wellFormed v ≡ true → Shaped (layout v) (shape-of v)
-
--- what `shape` told
-pub shaped-told : {read : ShapeRead} {shape : Shape} (s : List ℕ) → read ≡ shapeOf (view s) → read ≡ LaidOut shape → Shaped s shape
-unfolding shapeOf
-shaped-told {shape = shape} s p q = at (view s) refl (sym q ∙ p)
-  where
-    at : (o : Option View) → view s ≡ o → LaidOut shape ≡ shapeOf o → Shaped s shape
-    at none h e = let z : _≡_ {A = ℕ} 0 1 = cc in absurd (omega arith)
-    at (some v) h e =
-        let is : shape ≡ shape-of v = cc in
-        rw (is, ← view-layout s v h) (shaped v (view-well-formed s v h))
-
-pub malformed-told : {read : ShapeRead} (s : List ℕ) → read ≡ shapeOf (view s) → read ≡ Malformed → view s ≡ none
-unfolding shapeOf
-malformed-told s p q = at (view s) (sym p ∙ q)
-  where
-    at : (o : Option View) → shapeOf o ≡ Malformed → o ≡ none
-    at none e = refl
-    at (some v) e = cc
-
--- the numbers that a part of a store goes by
-pub record Bounds (s : List ℕ) (shape : Shape) : Type 0 where
-  pub size : length s ≡ storeLength (shape .counts)
-  pub range : InRange (shape .counts)
-  pub filters : shape .filters ≤ shape .counts .filters
-  pub notes : shape .notes ≤ shape .counts .notes
-
-bounds : {s : List ℕ} {shape : Shape} → Shaped s shape → Bounds s shape
-bounds (shaped v e) =
-    let f = well-formed-fits v e in
-    let counts-fit = openable-parts _ _ (well-formed-parts v e .head) .counts in
-    record { size = layout-length v f; range = fit-range (v .counts) counts-fit; filters = f .filters; notes = f .notes }
-
-pub bounds-told : {read : ShapeRead} {shape : Shape} (s : List ℕ) → read ≡ shapeOf (view s) → read ≡ LaidOut shape → Bounds s shape
-bounds-told s p q = bounds (shaped-told s p q)
-
 -- ---- what an event answers and does
 
 abbrev pub Answers : EventAnswer → Event → List ℕ → List ℕ → Type 0
 Answers answer e s store = (says answer ≡ cause e (view s)) × (store ≡ after e s)
 
-pub refused-by : (reason : Refusal) (e : Event) (s : List ℕ) → cause e (view s) ≡ some (refusal reason) → Answers (Refused reason) e s s
-unfolding says after stored
-refused-by reason e s h = (sym h, at (view s) h)
-  where
-    at : (o : Option View) → cause e o ≡ some (refusal reason) → s ≡ stored e s o
-    at none h = refl
-    at (some v) h = rw h
-
--- "The first cause in the order listed": one of the arguments alone
-first-front : (front back : List (Bool × ℕ)) {n : ℕ} → first front ≡ some n → first (front ++ back) ≡ some n
-unfolding first
-first-front [] back e = cc
-first-front (c ∷ front) back {n} e = at (c .0) e (first-front front back)
-  where
-    at : (b : Bool) → cond b (some (c .1)) (first front) ≡ some n → (first front ≡ some n → first (front ++ back) ≡ some n)
-        → cond b (some (c .1)) (first (front ++ back)) ≡ some n
-    at true e r = e
-    at false e r = r e
-
 pub argument-refused : (reason : Refusal) (e : Event) (s : List ℕ) → first (argumentCauses e) ≡ some (refusal reason) → Answers (Refused reason) e s s
-unfolding cause
-argument-refused reason e s h = refused-by reason e s (at (view s))
-  where
-    at : (o : Option View) → cause e o ≡ some (refusal reason)
-    at none = first-front (argumentCauses e) _ h
-    at (some v) = first-front (argumentCauses e) _ h
+unfolding says
+argument-refused reason e s h = argument-caused e s h
+
+pub unread-refused : {read : ShapeRead} (e : Event) (s : List ℕ) → first (argumentCauses e) ≡ none → read ≡ shapeOf (view s) → read ≡ Malformed → Answers (Refused Unread) e s s
+unfolding says refusal
+unread-refused e s h p q = malformed-caused e s h (sym p ∙ q)
 
 pub done-by : {store : List ℕ} (e : Event) (v : View) → wellFormed v ≡ true → cause e (some v) ≡ none → store ≡ layout (effect e v) → Answers Done e (layout v) store
 unfolding says after stored
@@ -323,8 +184,8 @@ module _ (session : ℕ) (s : List ℕ) where
   ended-out h = argument-refused OutOfRange (ended session) s (rw (lt-ltb 255 session h))
 
   pub ended-unread : {read : ShapeRead} → session < 256 → read ≡ shapeOf (view s) → read ≡ Malformed → Answers (Refused Unread) (ended session) s s
-  unfolding cause argumentCauses first refusal
-  ended-unread h p q = refused-by Unread (ended session) s (rw (malformed-told s p q, le-ltb 255 session (omega arith)))
+  unfolding argumentCauses first
+  ended-unread h = unread-refused (ended session) s (rw (le-ltb 255 session (omega arith)))
 
 -- the notes of a store as laid out
 note-stretch : (v : View) → Fits v → take (v .counts .notes * 260) (drop (notesAt (v .counts)) (layout v)) ≡ note-area v
@@ -333,7 +194,7 @@ note-stretch v f = rw (counts-back v) at (note-part v f)
 
 notes-read : {from : ℕ} (v : View) → Fits v → from ≡ notesAt (v .counts) → noteRowsIn (take (from + length (v .notes) * 260 - from) (drop from (layout v))) ≡ v .notes
 unfolding noteRowsIn numberedCodec
-notes-read {from} v f p = used-read note-reads (omega arith) _ _ (f .note-texts) (f .notes) (layout v) from (rw p (note-stretch v f))
+notes-read {from} v f p = used-read note-reads (omega arith) _ _ (f .note-texts) (f .notes) (layout v) from (rw p (note-stretch v f)) refl
 
 pub ended-done : {s store marks part : List ℕ} {shape : Shape} {from end stay : ℕ} (session : ℕ) (before : List ℕ) → Shaped s shape → session < 256
     → from ≡ notesAt (shape .counts) → end ≡ storeLength (shape .counts)
@@ -347,7 +208,7 @@ ended-done {marks = marks} {from = from} {end = end} session before (shaped v e)
     let span : end - from ≡ v .counts .notes * 260 = omega arith in
     let cut : take (v .counts .notes * 260) (drop from (layout v)) ≡ note-area v = rw p (note-stretch v f) in
     let told : marks ≡ marked (ofSession session) (v .notes) before = rw (notes-read v f p) at m in
-    let left = removed-told note-reads (omega arith) _ _ (f .note-texts) (f .notes) (layout v) from cut (ofSession session) before told span r in
+    let left = removed-told note-reads _ _ (f .note-texts) (f .notes) (layout v) from cut (ofSession session) before told span r in
     let short : length (drop from (layout v)) ≤ end - from = omega (arith, length-drop from (layout v), layout-length v f) in
     let rest : drop (end - from) (drop from (layout v)) ≡ [] = drop-of-length-le _ short in
     done-by (ended session) v e (rw (le-ltb 255 session (omega arith)))
@@ -367,10 +228,8 @@ module _ (session : ℕ) (id s : List ℕ) where
 
     pub disconnected-unread : {read : ShapeRead} → session < 256 → read ≡ shapeOf (view s) → read ≡ Malformed
         → Answers (Refused Unread) (disconnected session id) s s
-    unfolding cause argumentCauses first refusal
-    disconnected-unread h p q =
-        refused-by Unread (disconnected session id) s
-        (rw (malformed-told s p q, le-ltb 64 (length id) k, le-ltb 255 session (omega arith)))
+    unfolding argumentCauses first
+    disconnected-unread h = unread-refused (disconnected session id) s (rw (le-ltb 64 (length id) k, le-ltb 255 session (omega arith)))
 
 -- the filter rows of a store as laid out
 filter-stretch : (v : View) → Fits v → take (v .counts .filters * 326) (drop (filtersAt (v .counts)) (layout v)) ≡ filter-area v
@@ -380,7 +239,7 @@ filter-stretch v f = rw (counts-back v) at (filter-part v f)
 filters-read : {from : ℕ} (v : View) → Fits v → from ≡ filtersAt (v .counts)
     → filterRowsIn (take (from + length (v .filters) * 326 - from) (drop from (layout v))) ≡ v .filters
 unfolding filterRowsIn filterCodec
-filters-read {from} v f p = used-read filter-reads (omega arith) _ _ (f .filter-texts) (f .filters) (layout v) from (rw p (filter-stretch v f))
+filters-read {from} v f p = used-read filter-reads (omega arith) _ _ (f .filter-texts) (f .filters) (layout v) from (rw p (filter-stretch v f)) refl
 
 pub disconnected-done : {s store marks part : List ℕ} {shape : Shape} {from to notes stay : ℕ} (session : ℕ) (id before : List ℕ) → Shaped s shape
     → length id ≤ 64 → session < 256 → from ≡ filtersAt (shape .counts) → to ≡ eqsAt (shape .counts) → notes ≡ notesAt (shape .counts)
@@ -395,7 +254,7 @@ disconnected-done {marks = marks} {from = from} {to = to} session id before (sha
     let span : to - from ≡ v .counts .filters * 326 = omega arith in
     let cut : take (v .counts .filters * 326) (drop from (layout v)) ≡ filter-area v = rw p (filter-stretch v f) in
     let told : marks ≡ marked test (v .filters) before = rw (notes-read v f n, filters-read v f p) at m in
-    let left = removed-told filter-reads (omega arith) _ _ (f .filter-texts) (f .filters) (layout v) from cut test before told span r in
+    let left = removed-told filter-reads _ _ (f .filter-texts) (f .filters) (layout v) from cut test before told span r in
     let place : from + (to - from) ≡ eqsAt (v .counts) = omega arith in
     let rest : drop (to - from) (drop from (layout v)) ≡ drop (eqsAt (v .counts)) (layout v) = drop-drop (to - from) from (layout v) ∙ rw place in
     done-by (disconnected session id) v e (rw (le-ltb 64 (length id) k, le-ltb 255 session (omega arith)))

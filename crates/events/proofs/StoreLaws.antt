@@ -5,13 +5,13 @@ use mathlib.Core.Bool.{Bool, true, false, cond}
 use mathlib.Core.List.{List, [], _∷_, _++_, append-assoc, append-nil}
 use mathlib.Core.Option.{Option, none, some}
 use native.Mathlib.Omega.{arith}
-use borrow.Author.Tests.{le-ltb, lt-ltb, ltb-false, leb-true}
+use borrow.Author.Tests.{le-ltb, lt-ltb, ltb-false}
 use borrow.Rule.Slice.PartMut.{midOf}
-use lib.Dec.{leb, ltb}
+use lib.Dec.{ltb}
 use lib.ListN.{length, take, drop, length-append}
 use lib.Seq.{take-at, drop-at, take-append-le, take-append-add}
 use Rattle.text.specs.Text.{pasted}
-use Rattle.text.proofs.Laws.{and-split, or-split, pasted-fits}
+use Rattle.text.proofs.Laws.{or-split, pasted-fits}
 use Rattle.json.specs.Lines.{lines}
 use Rattle.table.specs.Table.{change}
 use Rattle.table.specs.Bytes.{u16, restored}
@@ -20,12 +20,14 @@ use Rattle.rule.specs.Refusals.{first}
 use Rattle.rule.specs.RuleText.{Fault, filled, faultIn, textFault}
 use Rattle.store.specs.declared.Counts.{Counts}
 use Rattle.store.specs.declared.Shape.{Shape}
-use Rattle.store.specs.declared.ShapeRead.the-variants.{LaidOut, Malformed}
-use Rattle.store.specs.Store.{bytesLimit, rowsLimit, sessionLimit, oneTo, countsFit, storeLength, filterSize, eqSize, noteSize, over, View, same-filter, same-eq}
+use Rattle.store.specs.declared.ShapeRead.the-variants.{Malformed}
+use Rattle.store.specs.Store.{bytesLimit, sessionLimit, storeLength, filterSize, eqSize, noteSize, over, View, same-filter, same-eq}
 use Rattle.store.specs.Layout.{pad, filterCodec, numberedCodec, eqCodec, noteCodec, area, header, layout, filtersAt, eqsAt, notesAt}
 use Rattle.store.specs.View.{faultless, view}
 use Rattle.store.specs.Check.{shapeOf}
-use Rattle.store.proofs.LayoutLaws.{filter-rows, eq-rows, note-rows, pad-length, pad-take, filter-reads, eq-reads, note-reads, area-length, Fits, filter-area, eq-area, note-area, longFilter, longEq, longNote, openable-parts, well-formed-parts, well-formed-fits, layout-length}
+use Rattle.store.proofs.LayoutLaws.{filter-rows, eq-rows, note-rows, pad-length, pad-take, filter-reads, eq-reads, note-reads, area-length, Fits, filter-area, eq-area, note-area, longFilter, longEq, longNote, openable-parts, well-formed-parts, well-formed-fits}
+use Rattle.store.proofs.OpenLaws.{InRange, fit-range}
+use Rattle.store.proofs.PartLaws.{shape-of, Seen, shaped-seen, malformed-told, Bounds, bounds-of}
 use Rattle.store.proofs.ViewLaws.{view-well-formed, view-layout}
 use Rattle.events.specs.Event.{Event, connected, overName, argumentCauses, filledFilters, filledEqs, filterRows, eqRows, noteRows, filterChange, newEqs, noteChange, effect, storeCauses, cause, stored, after, given as is-cause}
 use Rattle.events.specs.Templates.{overFilled}
@@ -37,21 +39,6 @@ use Rattle.events.specs.declared.PushedAll.the-variants.{Used, Full as A
 use Rattle.events.proofs.PushLaws.{places}
 use Rattle.events.proofs.ConnectLaws.{rules, drop-cut}
 use Rattle.events.proofs.FillLaws.{new-filters, new-eqs, new-notes, filters-short, eqs-short, notes-short, Stopped, used-told, stopped-told, stopped-back, stopped-length, added-good, added-back, none-back}
-
--- ---- what a shape tells of a store
-
-abbrev pub shape-of : View → Shape
-shape-of v = record { counts = v .counts; text = length (v .text); filters = length (v .filters); eqs = length (v .eqs); notes = length (v .notes) }
-
-pub record Seen (o : Option View) (shape : Shape) : Type 0 where
-  pub seen : View
-  pub is : o ≡ some seen
-  pub shaped : shape ≡ shape-of seen
-
-pub seen-as : (o : Option View) (shape : Shape) → shapeOf o ≡ LaidOut shape → Seen o shape
-unfolding shapeOf
-seen-as none shape e = let z : _≡_ {A = ℕ} 0 1 = cc in absurd (omega arith)
-seen-as (some v) shape e = record { seen = v; is = refl; shaped = cc }
 
 -- ---- a stretch of a list
 
@@ -228,12 +215,8 @@ argument-caused {n} e s q = caused e s (at (view s))
     at (some v) = first-some (argumentCauses e) (storeCauses e v) q
 
 pub malformed-caused : (e : Event) (s : List ℕ) → first (argumentCauses e) ≡ none → shapeOf (view s) ≡ Malformed → (some 3 ≡ cause e (view s)) × (s ≡ after e s)
-unfolding cause shapeOf first
-malformed-caused e s q m = caused e s (at (view s) m)
-  where
-    at : (o : Option View) → shapeOf o ≡ Malformed → cause e o ≡ some 3
-    at none m = first-none (argumentCauses e) ((true, 3) ∷ []) q
-    at (some v) m = let z : _≡_ {A = ℕ} 0 1 = cc in absurd (omega arith)
+unfolding cause first
+malformed-caused e s q m = caused e s (ap (cause e) (malformed-told s refl m) ∙ first-none (argumentCauses e) ((true, 3) ∷ []) q)
 
 -- the causes that are seen of the arguments
 module _ (session : ℕ) (id : List ℕ) (name : Option (List ℕ)) where
@@ -267,23 +250,6 @@ few-lines text e = at (ltb linesLimit (length (lines text))) _ refl e
     at true f q e = let z : _≡_ {A = ℕ} 0 1 = cc in absurd (omega arith)
     at false f q e = ltb-false linesLimit (length (lines text)) q
 
-in-limit : (most n : ℕ) → oneTo most n ≡ true → n ≤ most
-unfolding oneTo
-in-limit most n e = leb-true n most (and-split (leb 1 n) (leb n most) e .1)
-
--- the counts of a store as laid out
-pub counts-fit : (c : Counts) → countsFit c ≡ true → (c .bytes ≤ bytesLimit) × (c .filters ≤ rowsLimit) × (c .eqs ≤ rowsLimit) × (c .notes ≤ rowsLimit)
-unfolding countsFit
-counts-fit c e =
-    let a = and-split (oneTo bytesLimit (c .bytes)) _ e in
-    let b = and-split (oneTo rowsLimit (c .filters)) _ (a .1) in
-    let d = and-split (oneTo rowsLimit (c .eqs)) (oneTo rowsLimit (c .notes)) (b .1) in
-    (in-limit bytesLimit (c .bytes) (a .0), in-limit rowsLimit (c .filters) (b .0), in-limit rowsLimit (c .eqs) (d .0), in-limit rowsLimit (c .notes) (d .1))
-
-pub view-counts : (s : List ℕ) (v : View) → view s ≡ some v
-    → (v .counts .bytes ≤ bytesLimit) × (v .counts .filters ≤ rowsLimit) × (v .counts .eqs ≤ rowsLimit) × (v .counts .notes ≤ rowsLimit)
-view-counts s v is = counts-fit (v .counts) (openable-parts _ _ (well-formed-parts v (view-well-formed s v is) .head) .counts)
-
 filters-begin : (c : Counts) → filtersAt c ≡ 16 + c .bytes
 unfolding filtersAt
 filters-begin c = refl
@@ -293,14 +259,15 @@ module _ (s : List ℕ) (shape : Shape) (g : Seen (view s) shape) where
   G-fits : Fits (g .seen)
   G-fits = well-formed-fits (g .seen) (view-well-formed s (g .seen) (g .is))
 
+  G-bounds : Bounds s shape
+  G-bounds = bounds-of (shaped-seen s g)
+
   pub text-fits : shape .text ≤ bytesLimit
-  text-fits = omega (arith, ap (λ (h : Shape). h .text) (g .shaped), G-fits .text, view-counts s (g .seen) (g .is) .0)
+  text-fits = omega (arith, G-bounds .text, G-bounds .range .bytes-most)
 
   pub text-within : 16 + shape .text ≤ length s
-  text-within =
-      let c = g .seen .counts in
-      let size : length s ≡ storeLength c = ap length (sym (view-layout s (g .seen) (g .is))) ∙ layout-length (g .seen) G-fits in
-      omega (arith, ap (λ (h : Shape). h .text) (g .shaped), G-fits .text, filters-begin c, places c .0, places c .1, places c .2)
+  unfolding storeLength
+  text-within = omega (arith, G-bounds .size, G-bounds .text)
 
   -- as it is lent on
   pub text-lent : midOf 16 (16 + shape .text - 16) s ≡ g .seen .text
@@ -369,8 +336,8 @@ module _ {session at₁ at₂ at₃ end : ℕ} {id s : List ℕ} {name : Option 
   pub lines-fit : length (lines (v .text)) ≤ linesLimit
   lines-fit = few-lines (v .text) (faultless-none _ (openable-parts _ _ (well-formed-parts v (view-well-formed s v is) .head) .faultless))
 
-  pub rows-fit : (v .counts .bytes ≤ bytesLimit) × (v .counts .filters ≤ rowsLimit) × (v .counts .eqs ≤ rowsLimit) × (v .counts .notes ≤ rowsLimit)
-  rows-fit = view-counts s v is
+  pub rows-fit : InRange (v .counts)
+  rows-fit = fit-range (v .counts) (openable-parts _ _ (well-formed-parts v (view-well-formed s v is) .head) .counts)
 
   store-cause : cause event (some v)
       ≡ cond (ltb (v .counts .filters) (length (w .filters))) (some 8)

@@ -1,18 +1,14 @@
 -- Laws of the three questions on a store: its parts as the code cuts them are what it means, and each kind of answer. Assumes nothing.
-use Prim.Native.Nat.{ℕ, zero, suc, _+_, _-_, _*_, _≤_, _<_}
+use Prim.Native.Nat.{ℕ, suc, _+_, _-_, _*_, _≤_, _<_}
 use mathlib.Core.Path.{_≡_, refl, sym, ap, _∙_}
 use mathlib.Core.Bool.{Bool, true, false, _||_, cond, or-true}
-use mathlib.Core.List.{List, [], _∷_, _++_, map}
+use mathlib.Core.List.{List, [], _∷_}
 use mathlib.Core.Option.{Option, none, some}
 use native.Mathlib.Omega.{arith}
-use native.Mathlib.Nat.{add-sub-cancel-left, mul-le-mul-right, le-mul-of-pos-right}
-use borrow.Author.Tests.{ltb-true, ltb-false, lt-ltb, le-ltb, le-leb, lt-leb, eq-eqb, ne-eqb, eqb-false}
+use borrow.Author.Tests.{ltb-true, ltb-false, lt-ltb, le-ltb, eq-eqb, ne-eqb, eqb-false}
 use lib.Dec.{ltb, eqb}
-use lib.ListN.{length, take, drop, length-append, length-take}
-use lib.Seq.{take-at, drop-at, take-take}
-use Rattle.text.proofs.Laws.{or-split}
+use lib.ListN.{length, take, drop, length-take}
 use Rattle.table.specs.Table.{some-row}
-use Rattle.table.specs.Bytes.{rows, join}
 use Rattle.rule.specs.RuleText.{rulesOf}
 use Rattle.rule.specs.Rule.{Meaning}
 use Rattle.rule.specs.Identity.{Client, superuser}
@@ -20,13 +16,14 @@ use Rattle.rule.specs.Places.{given}
 use Rattle.rule.specs.Refusals.{first}
 use Rattle.rule.specs.declared.Given.{Given}
 use Rattle.rule.specs.declared.Given.the-variants.{Absent, Length}
-use Rattle.store.specs.Store.{over, filterSize, eqSize, storeLength, View}
-use Rattle.store.specs.Layout.{pad, Codec, filterCodec, numberedCodec, getAll, putAll, area, layout, filtersAt, eqsAt, textPart, filterPart, eqPart}
+use Rattle.store.specs.Store.{filterSize, eqSize, storeLength, View}
+use Rattle.store.specs.Layout.{filterCodec, numberedCodec, layout, filtersAt, eqsAt, textPart, filterPart, eqPart}
 use Rattle.store.specs.View.{view}
 use Rattle.store.specs.Check.{shapeOf}
 use Rattle.store.specs.declared.Shape.{Shape}
 use Rattle.store.specs.declared.ShapeRead.the-variants.{LaidOut, Malformed}
-use Rattle.store.proofs.LayoutLaws.{Reads, Fits, eq-reads, filter-reads, pad-take, put-all-length, counts-back, layout-length, text-part, filter-part, eq-part, well-formed-fits}
+use Rattle.store.proofs.LayoutLaws.{Fits, eq-reads, filter-reads, counts-back, text-part, filter-part, eq-part, well-formed-fits}
+use Rattle.store.proofs.PartLaws.{cut-pad, used-read, shape-of, shape-is, seen-as, malformed-told, bounds-told}
 use Rattle.store.proofs.ViewLaws.{view-layout, view-well-formed}
 use Rattle.questions.specs.Question.{Question, Decision, kept, Reply, refuses, decides, connects, subscribes, publishes, codeLimit, overGiven, clientOver, questionCause}
 use Rattle.questions.specs.Question as question
@@ -55,50 +52,12 @@ length-over {n = n} lent limit e h = rw e (at (ltb limit (length lent)) refl)
     at true q = lt-ltb limit (length (take n lent)) (omega (arith, length-take n lent, ltb-true limit (length lent) q))
     at false q = le-ltb limit (length (take n lent)) (omega (arith, length-take n lent, ltb-false limit (length lent) q))
 
--- ---- the used part of a stretch, as the code cuts it
-
-cut-pad : {n : ℕ} (from width : ℕ) (text s : List ℕ) → length text ≤ width → take width (drop from s) ≡ pad width text → n ≡ length text
-    → take (from + n - from) (drop from s) ≡ text
-cut-pad {n} from width text s h whole e = rw (add-sub-cancel-left from n, e, ← take-take (length text) width (drop from s) h, whole) (pad-take width text)
-
-rows-none : (size n : ℕ) → 0 < size → rows size n [] ≡ []
-unfolding rows
-rows-none size zero h = refl
-rows-none size (suc n) h = rw (lt-leb size 0 h)
-
-module _ {Row : Type 0} {c : Codec Row} {bad : Row → Bool} (R : Reads c bad) (some-size : 0 < c .size) where
-  -- any number from that of the rows on finds them all
-  all-back : (n : ℕ) (rs : List Row) → some-row bad rs ≡ false → length rs ≤ n → getAll c n (putAll c rs) ≡ rs
-  unfolding getAll putAll join rows some-row
-  all-back n [] e h = ap (map (c .get)) (rows-none (c .size) n some-size)
-  all-back zero (r ∷ rs) e h = absurd (omega arith)
-  all-back (suc n) (r ∷ rs) e h =
-      let s = or-split (bad r) _ e in
-      let sized = R .sized r (s .0) in
-      let rest : List ℕ = join (map (c .put) rs) in
-      let there : c .size ≤ length (c .put r ++ rest) = omega (arith, length-append (c .put r) rest) in
-      rw (le-leb (c .size) _ there, take-at (c .put r) rest _ sized, drop-at (c .put r) rest _ sized, R .back r (s .0))
-      (ap (λ (t : List Row). r ∷ t) (all-back n rs (s .1) (omega arith)))
-
-  -- of a table
-  used-back : {n : ℕ} (from room : ℕ) (rs : List Row) (s : List ℕ) → some-row bad rs ≡ false → length rs ≤ room
-      → take (room * c .size) (drop from s) ≡ area c room rs → n ≡ length rs
-      → let part = take (from + n * c .size - from) (drop from s) in getAll c (length part) part ≡ rs
-  unfolding area
-  used-back from room rs s e h whole p =
-      let size = put-all-length R rs e in
-      let there : length (putAll c rs) ≤ room * c .size = rw size (mul-le-mul-right (c .size) h) in
-      let enough : length rs ≤ length (putAll c rs) = rw size (le-mul-of-pos-right (length rs) some-size) in
-      rw (cut-pad from (room * c .size) (putAll c rs) s there whole (ap (λ (n : ℕ). n * c .size) p ∙ sym size))
-      (all-back (length (putAll c rs)) rs e enough)
-
 -- ---- a store whose shape is known
 
 module _ (s : List ℕ) {shape : Shape} {v : View} (e : shapeOf (view s) ≡ LaidOut shape) (h : view s ≡ some v) where
   -- the shape is that of what the store means
-  shaped : shape ≡ record { counts = v .counts; text = length (v .text); filters = length (v .filters); eqs = length (v .eqs); notes = length (v .notes) }
-  unfolding shapeOf
-  shaped = let k : shapeOf (some v) ≡ LaidOut shape = rw h at e in cc
+  is-shape : shape ≡ shape-of v
+  is-shape = shape-is (view s) e h
 
   laid-out : layout v ≡ s
   laid-out = view-layout s v h
@@ -109,21 +68,21 @@ module _ (s : List ℕ) {shape : Shape} {v : View} (e : shapeOf (view s) ≡ Lai
   -- the parts
   text-is : take (16 + shape .text - 16) (drop 16 s) ≡ v .text
   unfolding textPart
-  text-is = cut-pad 16 (v .counts .bytes) (v .text) s (fits .text) (rw (counts-back v, laid-out) at (text-part v fits)) (ap (λ (x : Shape). x .text) shaped)
+  text-is = cut-pad 16 (v .counts .bytes) (v .text) s (fits .text) (rw (counts-back v, laid-out) at (text-part v fits)) (ap (λ (x : Shape). x .text) is-shape)
 
   filters-are : {from : ℕ} → from ≡ filtersAt (shape .counts) → filterRows (take (from + shape .filters * filterSize - from) (drop from s)) ≡ v .filters
   unfolding filterRows filterPart filterCodec
   filters-are {from} p =
-      let begin : from ≡ filtersAt (v .counts) = p ∙ ap (λ (x : Shape). filtersAt (x .counts)) shaped in
-      used-back filter-reads (omega arith) from (v .counts .filters) (v .filters) s (fits .filter-texts) (fits .filters)
-      (rw (counts-back v, laid-out, ← begin) at (filter-part v fits)) (ap (λ (x : Shape). x .filters) shaped)
+      let begin : from ≡ filtersAt (v .counts) = p ∙ ap (λ (x : Shape). filtersAt (x .counts)) is-shape in
+      used-read filter-reads (omega arith) (v .counts .filters) (v .filters) (fits .filter-texts) (fits .filters) s from
+      (rw (counts-back v, laid-out, ← begin) at (filter-part v fits)) (ap (λ (x : Shape). x .filters) is-shape)
 
   eqs-are : {from : ℕ} → from ≡ eqsAt (shape .counts) → eqRows (take (from + shape .eqs * eqSize - from) (drop from s)) ≡ v .eqs
   unfolding eqRows eqPart numberedCodec
   eqs-are {from} p =
-      let begin : from ≡ eqsAt (v .counts) = p ∙ ap (λ (x : Shape). eqsAt (x .counts)) shaped in
-      used-back eq-reads (omega arith) from (v .counts .eqs) (v .eqs) s (fits .eq-texts) (fits .eqs)
-      (rw (counts-back v, laid-out, ← begin) at (eq-part v fits)) (ap (λ (x : Shape). x .eqs) shaped)
+      let begin : from ≡ eqsAt (v .counts) = p ∙ ap (λ (x : Shape). eqsAt (x .counts)) is-shape in
+      used-read eq-reads (omega arith) (v .counts .eqs) (v .eqs) (fits .eq-texts) (fits .eqs) s from
+      (rw (counts-back v, laid-out, ← begin) at (eq-part v fits)) (ap (λ (x : Shape). x .eqs) is-shape)
 
   -- what decides on the parts decides on what the store means
   pub decides-on : {filters eqs : ℕ} {answer : Deciding} (c : Client) (w : Wish) → filters ≡ filtersAt (shape .counts) → eqs ≡ eqsAt (shape .counts)
@@ -135,25 +94,17 @@ module _ (s : List ℕ) {shape : Shape} {v : View} (e : shapeOf (view s) ≡ Lai
       let g = eqs-are q in
       r ∙ (λ i. decidingOf (firstFrom (λ t. some-row t (f i)) (λ t. some-row t (g i)) c w 0 (rulesOf (text-is i))))
 
--- what the store means, and that the parts lie in it
-pub record Seen (s : List ℕ) (shape : Shape) : Type 0 where
-  pub means : View
-  pub is : view s ≡ some means
+-- the parts lie in the store
+pub record Within (s : List ℕ) (shape : Shape) : Type 0 where
   pub text : 16 + shape .text ≤ length s
   pub filters : filtersAt (shape .counts) + shape .filters * filterSize ≤ length s
   pub eqs : eqsAt (shape .counts) + shape .eqs * eqSize ≤ length s
 
-pub seen : (s : List ℕ) {shape : Shape} → shapeOf (view s) ≡ LaidOut shape → Seen s shape
-unfolding shapeOf filtersAt eqsAt storeLength
-seen s {shape} e = at (view s) refl
-  where
-    at : (o : Option View) → view s ≡ o → Seen s shape
-    at none q = let k : shapeOf none ≡ LaidOut shape = rw q at e in let z : _≡_ {A = ℕ} 0 1 = cc in absurd (omega arith)
-    at (some v) q =
-        let is = shaped s e q in
-        let f = fits s e q in
-        let size = rw (laid-out s e q) at (layout-length v f) in
-        record { means = v; is = q; text = rw is (omega (arith, size, f)); filters = rw is (omega (arith, size, f)); eqs = rw is (omega (arith, size, f)) }
+pub within : (s : List ℕ) {shape : Shape} → shapeOf (view s) ≡ LaidOut shape → Within s shape
+unfolding filtersAt eqsAt storeLength
+within s e =
+    let b = bounds-told s refl e in
+    record { text = omega (arith, b .size, b .text); filters = omega (arith, b .size, b .text, b .filters); eqs = omega (arith, b .size, b .text, b .filters, b .eqs) }
 
 -- ---- the answer, by what is known
 
@@ -173,12 +124,7 @@ module _ (q : Question) (s : List ℕ) where
     refuses-malformed h = decided-by h
 
     pub malformed-by : shapeOf (view s) ≡ Malformed → ask q s ≡ refuses 3 0
-    unfolding shapeOf
-    malformed-by h = at (view s) refl
-      where
-        at : (o : Option View) → view s ≡ o → ask q s ≡ refuses 3 0
-        at none k = refuses-malformed k
-        at (some v) k = let l : shapeOf (some v) ≡ Malformed = rw k at h in let z : _≡_ {A = ℕ} 0 1 = cc in absurd (omega arith)
+    malformed-by h = refuses-malformed (malformed-told s refl h)
 
     -- of a store as laid out
     pub keeps-by : {v : View} {code : ℕ} → view s ≡ some v → keeps q ≡ some code → ask q s ≡ decides (kept code)
@@ -214,7 +160,7 @@ by-rule q (some f) = ap (λ (d : Decision). cond (f .1 .allow) d (refusal q (suc
 -- of a store with a shape
 pub keeps-laid : {shape : Shape} {code : ℕ} (q : Question) (s : List ℕ) → questionCause q ≡ none → shapeOf (view s) ≡ LaidOut shape → keeps q ≡ some code
     → ask q s ≡ decides (kept code)
-keeps-laid q s e laid k = keeps-by q s e (seen s laid .is) k
+keeps-laid q s e laid k = keeps-by q s e (seen-as (view s) _ laid .is) k
 
 -- what is known once `deciding_on` has answered
 pub record Asks (q : Question) (s : List ℕ) (shape : Shape) (answer : Deciding) : Type 0 where
@@ -227,8 +173,8 @@ module _ {q : Question} {s : List ℕ} {shape : Shape} {answer : Deciding} (a : 
   decided-laid : {known : Deciding} → answer ≡ known → ask q s ≡ decides (decidedBy q known)
   unfolding decidingOn
   decided-laid d =
-      let v = seen s (a .laid) in
-      decides-by q s (a .cause) (v .is) (a .new) ∙ ap decides (by-rule q _ ∙ ap (decidedBy q) (sym (a .told (v .means) (v .is)) ∙ d))
+      let v = seen-as (view s) _ (a .laid) in
+      decides-by q s (a .cause) (v .is) (a .new) ∙ ap decides (by-rule q _ ∙ ap (decidedBy q) (sym (a .told (v .seen) (v .is)) ∙ d))
 
   pub none-laid : answer ≡ NoRule → ask q s ≡ decides (refusal q 0)
   unfolding decidedBy

@@ -5,12 +5,11 @@ use mathlib.Core.Path.{_≡_, refl, sym, ap, subst, _∙_}
 use mathlib.Core.Bool.{Bool, true, false, _&&_, _||_, not, cond, and-assoc, or-true}
 use mathlib.Core.List.{List, [], _∷_, map}
 use mathlib.Core.Option.{Option, none, some, bind, Option·map}
-use native.Mathlib.Nat.{sub-zero, add-sub-cancel, add-sub-cancel-left}
+use native.Mathlib.Nat.{add-sub-cancel}
 use native.Mathlib.Numerals.{add-one}
 use native.Mathlib.Omega.{arith}
-use borrow.Author.Tests.{eq-eqb, ne-eqb, leb-true, lt-leb}
-use lib.Dec.{leb}
-use lib.ListN.{length, take, drop, length-drop}
+use borrow.Author.Tests.{eq-eqb, ne-eqb}
+use lib.ListN.{length, drop}
 use Rattle.text.specs.Text.{same}
 use Rattle.topic.specs.Topic.{treeMatch}
 use Rattle.json.specs.Json.{Elements, no-element, element, depthLimit, lineValue, longest, longestElement}
@@ -22,8 +21,7 @@ use Rattle.json.proofs.ValueLaws.{value-next}
 use Rattle.json.proofs.AccessLaws.{elementPlace, ElementsIn, array-is}
 use Rattle.json.proofs.LineLaws.{lines-here, lines-past, next-within, next-after}
 use Rattle.table.specs.Table.{some-row}
-use Rattle.table.specs.Bytes.{number, rows}
-use Rattle.table.proofs.RowLaws.{rows-step, rows-short}
+use Rattle.table.specs.Bytes.{number}
 use Rattle.rule.specs.Limits.{textLimit}
 use Rattle.rule.specs.Rule.{Value, Topic, Rule, Meaning, means, topicMeans, asArray, topicOf, topicsIn, topicsOf}
 use Rattle.rule.specs.RuleText.{Result, refused, gives, readRule, ruleOn, rulesOf}
@@ -36,7 +34,7 @@ use Rattle.rule.specs.declared.Topics.the-variants.{All, Listed}
 use Rattle.rule.proofs.RuleLaws.{Stands, value-stands}
 use Rattle.rule.proofs.FourthLaws.{topic-under, bound, mapped, array-value, FourthIs, fourth-is}
 use Rattle.store.specs.Store.{over, FilterRow, EqRow}
-use Rattle.store.specs.Layout.{Codec, filterText, filterOwner, filterCodec, numberedText, numberedCodec, eqCodec, getAll}
+use Rattle.store.specs.Layout.{filterText, filterOwner, filterCodec, numberedText, numberedCodec, eqCodec}
 use Rattle.questions.specs.Decision.{covers, staticAgrees, eqAgrees, filterAgrees, topicsAgree, wishAgrees, ruleAgrees, firstFrom}
 use Rattle.questions.specs.Parts.{wishOf, filterRows, eqRows, coversAsked, topicsFor, headOf, headAt, topicAgreesAt, someTopicFrom, decidingOf, deciding}
 use Rattle.questions.specs.declared.Asked.{Asked}
@@ -46,42 +44,6 @@ use Rattle.questions.specs.declared.Head.the-variants.{Agrees, Differs}
 use Rattle.questions.specs.declared.Deciding.the-variants.{Rule as ByRule, NoRule}
 
 -- ---- rows
-
--- any number from the length on finds all the whole rows
-rows-enough : (size n m : ℕ) (s : List ℕ) → 0 < size → length s ≤ n → length s ≤ m → rows size n s ≡ rows size m s
-unfolding rows
-rows-enough size zero zero s h k l = refl
-rows-enough size zero (suc m) s h k l = rw (lt-leb size (length s) (omega arith))
-rows-enough size (suc n) zero s h k l = rw (lt-leb size (length s) (omega arith))
-rows-enough size (suc n) (suc m) s h k l = at (leb size (length s)) refl (λ f g. rows-enough size n m (drop size s) h f g)
-  where
-    at : (b : Bool) → leb size (length s) ≡ b → (length (drop size s) ≤ n → length (drop size s) ≤ m → rows size n (drop size s) ≡ rows size m (drop size s))
-        → cond b (take size s ∷ rows size n (drop size s)) [] ≡ cond b (take size s ∷ rows size m (drop size s)) []
-    at true e r =
-        let whole = leb-true size (length s) e in
-        let left = length-drop size s in
-        rw (r (omega arith) (omega arith))
-    at false e r = refl
-
--- one of the whole rows from a place on passes the test
-unfoldable pub someRowFrom : {Row : Type 0} → Codec Row → (Row → Bool) → ℕ → List ℕ → Bool
-someRowFrom c p at s = some-row p (getAll c (length s) (drop at s))
-
-module _ {Row : Type 0} (c : Codec Row) (p : Row → Bool) (at : ℕ) (s : List ℕ) where
-  -- the row at the place passes the test or not
-  pub row-by : {b : Bool} → 0 < c .size → at + c .size ≤ length s → p (c .get (take (at + c .size - at) (drop at s))) ≡ b
-      → someRowFrom c p at s ≡ (b || someRowFrom c p (at + c .size) s)
-  unfolding someRowFrom getAll some-row
-  row-by h k e =
-      let left = length-drop (at + c .size) s in
-      let more = rw sub-zero at (rows-step (c .size) (length s) 0 at s (omega arith) k) in
-      let enough = rows-enough (c .size) (length s - (0 + 1)) (length s) (drop (at + c .size) s) h (omega arith) (omega arith) in
-      rw (more, enough, rw add-sub-cancel-left at e)
-
-  -- no row is left
-  pub row-none : length s - at < c .size → someRowFrom c p at s ≡ false
-  unfolding someRowFrom getAll some-row
-  row-none h = rw (rows-short (c .size) (length s) at s h)
 
 -- a row agrees by its number, and where that is the rule's by its texts
 module _ (rule : ℕ) (topic row : List ℕ) {n : ℕ} (e : n ≡ number row) where

@@ -5,3 +5,4 @@ pub mod ShapeLaws
 pub mod RowLaws
 pub mod OpenLaws
 pub mod AreaLaws
+pub mod PartLaws

@@ -6,8 +6,8 @@ use mathlib.Core.List.{List, [], _∷_, _++_, append-assoc, append-nil}
 use native.Mathlib.Nat.{zero-add, add-zero, sub-zero, zero-mul, mul-zero, mul-comm, mul-sub}
 use native.Mathlib.Numerals.{add-one}
 use native.Mathlib.Omega.{arith}
-use borrow.Author.Tests.{le-leb, lt-leb}
-use lib.Dec.{eqb}
+use borrow.Author.Tests.{leb-true, le-leb, lt-leb}
+use lib.Dec.{eqb, leb}
 use lib.ListN.{length, take, drop, length-append, length-drop}
 use lib.Seq.{drop-drop, length-take-le, paste, take-paste, drop-paste, length-paste}
 use Rattle.text.specs.Text.{same, fitsAt, pasted}
@@ -41,6 +41,23 @@ rows-short size (suc n) at s h =
 pub rows-end : (size n i : ℕ) (s : List ℕ) → n ≤ i → rows size (n - i) s ≡ []
 unfolding rows
 rows-end size n i s h = let none : n - i ≡ 0 = omega arith in rw none
+
+-- any number finds all the whole rows, if one row more wouldn't fit
+pub rows-enough : (size n m : ℕ) (s : List ℕ) → length s < n * size + size → length s < m * size + size → rows size n s ≡ rows size m s
+unfolding rows
+rows-enough size zero zero s k l = refl
+rows-enough size zero (suc m) s k l = rw (lt-leb size (length s) (omega arith))
+rows-enough size (suc n) zero s k l = rw (lt-leb size (length s) (omega arith))
+rows-enough size (suc n) (suc m) s k l = at (leb size (length s)) refl (λ f g. rows-enough size n m (drop size s) f g)
+  where
+    at : (b : Bool) → leb size (length s) ≡ b
+        → (length (drop size s) < n * size + size → length (drop size s) < m * size + size → rows size n (drop size s) ≡ rows size m (drop size s))
+        → cond b (take size s ∷ rows size n (drop size s)) [] ≡ cond b (take size s ∷ rows size m (drop size s)) []
+    at true e r =
+        let whole = leb-true size (length s) e in
+        let left = length-drop size s in
+        rw (r (omega arith) (omega arith))
+    at false e r = refl
 
 -- ---- the steps of the loop of `present`
 

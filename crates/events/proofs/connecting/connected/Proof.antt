@@ -7,9 +7,10 @@ use denote.Ref.{now}
 use Rattle.rule.specs.Refusals.{number, first}
 use Rattle.rule.specs.Places.{given}
 use Rattle.store.specs.View.{view}
+use Rattle.store.proofs.PartLaws.{Seen, seen-as}
 use Rattle.events.specs.Event as spec
 use Rattle.events.specs.Event.{says, argumentCauses}
-use Rattle.events.proofs.StoreLaws.{Seen, seen-as, text-fits, text-within, not-over, over-caused, argument-caused, malformed-caused, id-over, name-too-long, session-over, arguments-fine}
+use Rattle.events.proofs.StoreLaws.{text-fits, text-within, not-over, over-caused, argument-caused, malformed-caused, id-over, name-too-long, session-over, arguments-fine}
 use Rattle.events.proofs.connecting.connected.Statement.{statement}
 use Rattle.events.proofs.connecting.connected.Tie as tie
 

@@ -7,8 +7,9 @@ use denote.Ref.{now}
 use Rattle.rule.specs.Refusals.{number}
 use Rattle.rule.specs.Places.{given}
 use Rattle.store.specs.View.{view}
+use Rattle.store.proofs.PartLaws.{Seen, seen-as}
 use Rattle.events.specs.Event.{says}
-use Rattle.events.proofs.StoreLaws.{Seen, seen-as, text-fits, Ready, rows-fit, start, sized, asks-filters, asks-eqs, asks-notes, filters-full, FiltersAdded, filters-added, sized₁, eqs-full, EqsAdded, eqs-added, sized₂, notes-full, NotesAdded, notes-added, all-added}
+use Rattle.events.proofs.StoreLaws.{text-fits, Ready, rows-fit, start, sized, asks-filters, asks-eqs, asks-notes, filters-full, FiltersAdded, filters-added, sized₁, eqs-full, EqsAdded, eqs-added, sized₂, notes-full, NotesAdded, notes-added, all-added}
 use Rattle.events.proofs.connecting.fill_tables.Statement.{statement}
 use Rattle.events.proofs.connecting.fill_tables.Tie as tie
 

@@ -5,7 +5,8 @@ use borrow.Author.Needs.{needs}
 use lib.ListN.{length-take, length-drop}
 use Rattle.store.specs.Store.{storeLength}
 use Rattle.store.specs.Layout.{filtersAt, eqsAt, notesAt}
-use Rattle.events.proofs.LeaveLaws.{shaped-told, bounds-told, stay-few, ended-out, ended-unread, ended-done}
+use Rattle.store.proofs.PartLaws.{shaped-told, bounds-told}
+use Rattle.events.proofs.LeaveLaws.{stay-few, ended-out, ended-unread, ended-done}
 use Rattle.events.proofs.leaving.ended.Statement.{statement}
 use Rattle.events.proofs.leaving.ended.Tie as tie
 

@@ -7,9 +7,10 @@ use native.Mathlib.Omega.{arith}
 use borrow.Author.Needs.{needs}
 use lib.ListN.{length}
 use Rattle.store.specs.Layout.{filterCodec}
+use Rattle.store.proofs.PartLaws.{rowsFrom}
 use Rattle.events.specs.Event.{cleared}
 use Rattle.events.specs.Marks.{filterRow, filterRowsIn, noteRowsIn}
-use Rattle.events.proofs.LeaveLaws.{rowsFrom, Marking, marking-none, marking-more, marking-end}
+use Rattle.events.proofs.LeaveLaws.{Marking, marking-none, marking-more, marking-end}
 use Rattle.events.proofs.leaving.mark_filters.Statement.{statement}
 use Rattle.events.proofs.leaving.mark_filters.Tie as tie
 

@@ -8,9 +8,10 @@ use borrow.Author.Needs.{needs}
 use borrow.Author.Tests.{eq-eqb, ne-eqb}
 use lib.ListN.{length}
 use Rattle.store.specs.Layout.{numberedCodec, noteCodec}
+use Rattle.store.proofs.PartLaws.{rowsFrom}
 use Rattle.events.specs.Event.{ofSession}
 use Rattle.events.specs.Marks.{noteRowsIn}
-use Rattle.events.proofs.LeaveLaws.{rowsFrom, Marking, marking-none, marking-more, marking-end}
+use Rattle.events.proofs.LeaveLaws.{Marking, marking-none, marking-more, marking-end}
 use Rattle.events.proofs.leaving.mark_notes.Statement.{statement}
 use Rattle.events.proofs.leaving.mark_notes.Tie as tie
 

@@ -8,9 +8,10 @@ use denote.Ref.{now}
 use lib.ListN.{length}
 use Rattle.table.specs.Table.{some-row}
 use Rattle.store.specs.Layout.{numberedCodec, noteCodec}
+use Rattle.store.proofs.PartLaws.{rowsFrom, some-more, some-none}
 use Rattle.events.specs.Event.{clears}
 use Rattle.events.specs.Marks.{noteRowsIn}
-use Rattle.events.proofs.LeaveLaws.{rowsFrom, some-more, some-none, note-other, note-invalid, note-valid}
+use Rattle.events.proofs.LeaveLaws.{note-other, note-invalid, note-valid}
 use Rattle.events.proofs.leaving.note_clears.Statement.{statement}
 use Rattle.events.proofs.leaving.note_clears.Tie as tie
 

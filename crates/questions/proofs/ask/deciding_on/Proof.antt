@@ -2,7 +2,7 @@
 use native.Mathlib.Omega.{arith}
 use borrow.Author.Needs.{needs}
 use denote.Ref.{now}
-use Rattle.questions.proofs.AskLaws.{Seen, seen, decides-on}
+use Rattle.questions.proofs.AskLaws.{Within, within, decides-on}
 use Rattle.questions.proofs.ask.deciding_on.Statement.{statement}
 use Rattle.questions.proofs.ask.deciding_on.Tie as tie
 
@@ -10,8 +10,8 @@ use Rattle.questions.proofs.ask.deciding_on.Tie as tie
 abbrev start : tie.After-struct-known → tie.Start
 start c = c .before .before .before .before .before .before .before .before
 
-parts : (c : tie.After-struct-known) → let a = start c .args in Seen (now (a .store)) (a .shape)
-parts c = seen (now (start c .args .store)) (start c .pre)
+parts : (c : tie.After-struct-known) → let a = start c .args in Within (now (a .store)) (a .shape)
+parts c = within (now (start c .args .store)) (start c .pre)
 
 add-text-end : tie.Need-add-text-end
 add-text-end c = omega (arith, parts c .text)

@@ -9,20 +9,21 @@ use lib.ListN.{length}
 use Rattle.text.specs.Text.{same}
 use Rattle.table.specs.Table.{some-row}
 use Rattle.store.specs.Layout.{eqCodec, numberedCodec}
+use Rattle.store.proofs.PartLaws.{rowsFrom, some-more, some-none}
 use Rattle.questions.specs.Decision.{eqAgrees}
 use Rattle.questions.specs.Parts.{eqRows}
-use Rattle.questions.proofs.DecisionLaws.{someRowFrom, row-by, row-none, eq-text, eq-other}
+use Rattle.questions.proofs.DecisionLaws.{eq-text, eq-other}
 use Rattle.questions.proofs.decision.eq_row_agrees.Statement.{statement}
 use Rattle.questions.proofs.decision.eq_row_agrees.Tie as tie
 
 abbrev Inv-loop : tie.InvT-loop
-Inv-loop eqs rule topic at₀ at = (at ≤ length eqs) × (someRowFrom eqCodec (eqAgrees rule topic) at eqs ≡ some-row (eqAgrees rule topic) (eqRows eqs))
+Inv-loop eqs rule topic at₀ at = (at ≤ length eqs) × (some-row (eqAgrees rule topic) (rowsFrom eqCodec at eqs) ≡ some-row (eqAgrees rule topic) (eqRows eqs))
 
 abbrev μ-loop : tie.MeasureT-loop
 μ-loop eqs rule topic at₀ at = length eqs - at
 
 loop-holds : tie.Need-loop-holds Inv-loop μ-loop
-unfolding someRowFrom eqRows
+unfolding rowsFrom eqRows
 loop-holds c = (omega arith, refl)
 
 sub-loop : tie.Need-sub-loop Inv-loop μ-loop
@@ -55,7 +56,7 @@ returns c =
     let n = c .before .before .before .before in
     let l = n .before .before .before .loop in
     let agrees = eq-text _ _ _ (n .number-at .ensures) (c .before .before .before .if1 .taken) (c .before .before .numbered-text .ensures) (c .before .same .ensures) (c .if2 .taken) in
-    sym (row-by eqCodec _ (l .at) _ (omega arith) (omega arith) agrees) ∙ l .inv .1
+    sym (some-more eqCodec (l .at) _ _ (omega arith) (omega arith) agrees) ∙ l .inv .1
 
 loop-less : tie.Need-loop-less Inv-loop μ-loop
 loop-less c = omega arith
@@ -66,7 +67,7 @@ loop-again c =
     let n = c .before .before .before .before in
     let l = n .before .before .before .loop in
     let agrees = eq-text _ _ _ (n .number-at .ensures) (c .before .before .before .if1 .taken) (c .before .before .numbered-text .ensures) (c .before .same .ensures) (c .if2 .left) in
-    (omega arith, sym (row-by eqCodec _ (l .at) _ (omega arith) (omega arith) agrees) ∙ l .inv .1)
+    (omega arith, sym (some-more eqCodec (l .at) _ _ (omega arith) (omega arith) agrees) ∙ l .inv .1)
 
 loop-less-2 : tie.Need-loop-less-2 Inv-loop μ-loop
 loop-less-2 c = omega arith
@@ -76,11 +77,11 @@ unfolding numberedCodec
 loop-again-2 c =
     let l = c .before .before .before .before .loop in
     let agrees = eq-other _ (now (c .before .before .before .before .before .before .before .args .topic)) _ (c .before .number-at .ensures) (c .if1 .left) in
-    (omega arith, sym (row-by eqCodec _ (l .at) _ (omega arith) (omega arith) agrees) ∙ l .inv .1)
+    (omega arith, sym (some-more eqCodec (l .at) _ _ (omega arith) (omega arith) agrees) ∙ l .inv .1)
 
 returns-2 : tie.Need-returns-2 Inv-loop μ-loop
 unfolding numberedCodec
-returns-2 c = sym (row-none eqCodec _ (c .before .loop .at) _ (c .loop-test .left)) ∙ c .before .loop .inv .1
+returns-2 c = sym (some-none eqCodec (c .before .loop .at) _ _ (c .loop-test .left)) ∙ c .before .loop .inv .1
 
 pub eq-row-agrees-spec : {M : Type 1} → statement M
 eq-row-agrees-spec =

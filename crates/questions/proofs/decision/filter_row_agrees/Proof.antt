@@ -9,21 +9,22 @@ use lib.ListN.{length}
 use Rattle.text.specs.Text.{same}
 use Rattle.table.specs.Table.{some-row}
 use Rattle.store.specs.Layout.{filterCodec}
+use Rattle.store.proofs.PartLaws.{rowsFrom, some-more, some-none}
 use Rattle.questions.specs.Decision.{filterAgrees}
 use Rattle.questions.specs.Parts.{filterRows}
-use Rattle.questions.proofs.DecisionLaws.{someRowFrom, row-by, row-none, filter-text, filter-owner, filter-other}
+use Rattle.questions.proofs.DecisionLaws.{filter-text, filter-owner, filter-other}
 use Rattle.questions.proofs.decision.filter_row_agrees.Statement.{statement}
 use Rattle.questions.proofs.decision.filter_row_agrees.Tie as tie
 
 abbrev Inv-loop : tie.InvT-loop
 Inv-loop filters rule id topic at₀ at =
-    (at ≤ length filters) × (someRowFrom filterCodec (filterAgrees rule id topic) at filters ≡ some-row (filterAgrees rule id topic) (filterRows filters))
+    (at ≤ length filters) × (some-row (filterAgrees rule id topic) (rowsFrom filterCodec at filters) ≡ some-row (filterAgrees rule id topic) (filterRows filters))
 
 abbrev μ-loop : tie.MeasureT-loop
 μ-loop filters rule id topic at₀ at = length filters - at
 
 loop-holds : tie.Need-loop-holds Inv-loop μ-loop
-unfolding someRowFrom filterRows
+unfolding rowsFrom filterRows
 loop-holds c = (omega arith, refl)
 
 sub-loop : tie.Need-sub-loop Inv-loop μ-loop
@@ -64,7 +65,7 @@ returns c =
     let l = n .before .before .before .loop in
     let owned = filter-text _ _ _ (n .number-at .ensures) _ (o .before .before .before .if1 .taken) (o .before .before .filter-owner .ensures) (o .before .same .ensures) (o .if2 .taken) in
     let agrees = owned (c .before .before .filter-text .ensures) (c .before .tree-match .ensures) (c .if3 .taken) in
-    sym (row-by filterCodec _ (l .at) _ (omega arith) (omega arith) agrees) ∙ l .inv .1
+    sym (some-more filterCodec (l .at) _ _ (omega arith) (omega arith) agrees) ∙ l .inv .1
 
 loop-less : tie.Need-loop-less Inv-loop μ-loop
 loop-less c = omega arith
@@ -77,7 +78,7 @@ loop-again c =
     let l = n .before .before .before .loop in
     let owned = filter-text _ _ _ (n .number-at .ensures) _ (o .before .before .before .if1 .taken) (o .before .before .filter-owner .ensures) (o .before .same .ensures) (o .if2 .taken) in
     let agrees = owned (c .before .before .filter-text .ensures) (c .before .tree-match .ensures) (c .if3 .left) in
-    (omega arith, sym (row-by filterCodec _ (l .at) _ (omega arith) (omega arith) agrees) ∙ l .inv .1)
+    (omega arith, sym (some-more filterCodec (l .at) _ _ (omega arith) (omega arith) agrees) ∙ l .inv .1)
 
 loop-less-2 : tie.Need-loop-less-2 Inv-loop μ-loop
 loop-less-2 c = omega arith
@@ -89,7 +90,7 @@ loop-again-2 c =
     let l = n .before .before .before .loop in
     let topic = now (n .before .before .before .before .before .before .before .args .topic) in
     let agrees = filter-owner _ topic _ (n .number-at .ensures) _ (c .before .before .before .if1 .taken) (c .before .before .filter-owner .ensures) (c .before .same .ensures) (c .if2 .left) in
-    (omega arith, sym (row-by filterCodec _ (l .at) _ (omega arith) (omega arith) agrees) ∙ l .inv .1)
+    (omega arith, sym (some-more filterCodec (l .at) _ _ (omega arith) (omega arith) agrees) ∙ l .inv .1)
 
 loop-less-3 : tie.Need-loop-less-3 Inv-loop μ-loop
 loop-less-3 c = omega arith
@@ -100,11 +101,11 @@ loop-again-3 c =
     let l = c .before .before .before .before .loop in
     let args = c .before .before .before .before .before .before .before .before .args in
     let agrees = filter-other _ (now (args .topic)) _ (c .before .number-at .ensures) (now (args .id)) (c .if1 .left) in
-    (omega arith, sym (row-by filterCodec _ (l .at) _ (omega arith) (omega arith) agrees) ∙ l .inv .1)
+    (omega arith, sym (some-more filterCodec (l .at) _ _ (omega arith) (omega arith) agrees) ∙ l .inv .1)
 
 returns-2 : tie.Need-returns-2 Inv-loop μ-loop
 unfolding filterCodec
-returns-2 c = sym (row-none filterCodec _ (c .before .loop .at) _ (c .loop-test .left)) ∙ c .before .loop .inv .1
+returns-2 c = sym (some-none filterCodec (c .before .loop .at) _ _ (c .loop-test .left)) ∙ c .before .loop .inv .1
 
 pub filter-row-agrees-spec : {M : Type 1} → statement M
 filter-row-agrees-spec =
