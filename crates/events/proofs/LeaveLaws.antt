@@ -22,13 +22,13 @@ use Rattle.store.specs.declared.Shape.{Shape}
 use Rattle.store.specs.declared.ShapeRead.{ShapeRead}
 use Rattle.store.specs.declared.ShapeRead.the-variants.{Malformed}
 use Rattle.store.specs.Store.{storeLength, NoteRow, View}
-use Rattle.store.specs.Layout.{Codec, filterText, filterOwner, filterCodec, numberedText, numberedCodec, noteCodec, area, layout, filtersAt, eqsAt, notesAt, filterPart, notePart}
+use Rattle.store.specs.Layout.{Codec, filterText, filterOwner, filterCodec, numberedText, numberedCodec, noteCodec, area, layout, filtersAt, eqsAt, notesAt}
 use Rattle.store.specs.View.{wellFormed, view}
 use Rattle.store.specs.Check.{shapeOf}
-use Rattle.store.proofs.LayoutLaws.{Reads, note-reads, filter-reads, Fits, filter-area, note-area, counts-back, layout-length, filter-part, note-part, well-formed-fits}
+use Rattle.store.proofs.LayoutLaws.{Reads, note-reads, filter-reads, filter-area, note-area, layout-length, well-formed-fits}
 use Rattle.store.proofs.ViewLaws.{view-of-layout}
 use Rattle.store.proofs.AreaLaws.{remove-count, remove-area, with-filters, with-notes}
-use Rattle.store.proofs.PartLaws.{rowsFrom, rows-more, rows-none, used-read, Shaped, shaped}
+use Rattle.store.proofs.PartLaws.{rowsFrom, rows-more, rows-none, filter-stretch, note-stretch, filters-read, notes-read, Shaped, shaped}
 use Rattle.events.specs.Event.{Event, disconnected, ended, argumentCauses, ofSession, clears, cleared, filterChange, newEqs, noteChange, effect, storeCauses, cause, stored, after, says}
 use Rattle.events.specs.Marks.{filterRow, filterRowsIn, noteRowsIn, marked}
 use Rattle.events.specs.declared.EventAnswer.{EventAnswer}
@@ -187,22 +187,13 @@ module _ (session : ℕ) (s : List ℕ) where
   unfolding argumentCauses first
   ended-unread h = unread-refused (ended session) s (rw (le-ltb 255 session (omega arith)))
 
--- the notes of a store as laid out
-note-stretch : (v : View) → Fits v → take (v .counts .notes * 260) (drop (notesAt (v .counts)) (layout v)) ≡ note-area v
-unfolding notePart
-note-stretch v f = rw (counts-back v) at (note-part v f)
-
-notes-read : {from : ℕ} (v : View) → Fits v → from ≡ notesAt (v .counts) → noteRowsIn (take (from + length (v .notes) * 260 - from) (drop from (layout v))) ≡ v .notes
-unfolding noteRowsIn numberedCodec
-notes-read {from} v f p = used-read note-reads (omega arith) _ _ (f .note-texts) (f .notes) (layout v) from (rw p (note-stretch v f)) refl
-
 pub ended-done : {s store marks part : List ℕ} {shape : Shape} {from end stay : ℕ} (session : ℕ) (before : List ℕ) → Shaped s shape → session < 256
     → from ≡ notesAt (shape .counts) → end ≡ storeLength (shape .counts)
     → marks ≡ marked (ofSession session) (noteRowsIn (take (from + shape .notes * 260 - from) (drop from s))) before
     → (stay ≡ length (kept 260 (shape .notes) marks (take (end - from) (drop from s)))) × (part ≡ removed 260 (shape .notes) marks (take (end - from) (drop from s)))
     → store ≡ pasted 14 (u16 stay) (take from s ++ (part ++ drop (end - from) (drop from s)))
     → Answers Done (ended session) s store
-unfolding storeLength notesAt eqsAt filtersAt cause argumentCauses storeCauses first effect filterChange newEqs noteChange change add-all numberedCodec
+unfolding storeLength notesAt eqsAt filtersAt cause argumentCauses storeCauses first effect filterChange newEqs noteChange change add-all numberedCodec noteRowsIn
 ended-done {marks = marks} {from = from} {end = end} session before (shaped v e) h p q m r t =
     let f = well-formed-fits v e in
     let span : end - from ≡ v .counts .notes * 260 = omega arith in
@@ -231,23 +222,13 @@ module _ (session : ℕ) (id s : List ℕ) where
     unfolding argumentCauses first
     disconnected-unread h = unread-refused (disconnected session id) s (rw (le-ltb 64 (length id) k, le-ltb 255 session (omega arith)))
 
--- the filter rows of a store as laid out
-filter-stretch : (v : View) → Fits v → take (v .counts .filters * 326) (drop (filtersAt (v .counts)) (layout v)) ≡ filter-area v
-unfolding filterPart
-filter-stretch v f = rw (counts-back v) at (filter-part v f)
-
-filters-read : {from : ℕ} (v : View) → Fits v → from ≡ filtersAt (v .counts)
-    → filterRowsIn (take (from + length (v .filters) * 326 - from) (drop from (layout v))) ≡ v .filters
-unfolding filterRowsIn filterCodec
-filters-read {from} v f p = used-read filter-reads (omega arith) _ _ (f .filter-texts) (f .filters) (layout v) from (rw p (filter-stretch v f)) refl
-
 pub disconnected-done : {s store marks part : List ℕ} {shape : Shape} {from to notes stay : ℕ} (session : ℕ) (id before : List ℕ) → Shaped s shape
     → length id ≤ 64 → session < 256 → from ≡ filtersAt (shape .counts) → to ≡ eqsAt (shape .counts) → notes ≡ notesAt (shape .counts)
     → marks ≡ marked (cleared session id (noteRowsIn (take (notes + shape .notes * 260 - notes) (drop notes s)))) (filterRowsIn (take (from + shape .filters * 326 - from) (drop from s))) before
     → (stay ≡ length (kept 326 (shape .filters) marks (take (to - from) (drop from s)))) × (part ≡ removed 326 (shape .filters) marks (take (to - from) (drop from s)))
     → store ≡ pasted 10 (u16 stay) (take from s ++ (part ++ drop (to - from) (drop from s)))
     → Answers Done (disconnected session id) s store
-unfolding eqsAt cause argumentCauses storeCauses first effect filterChange newEqs noteChange change add-all filterCodec
+unfolding eqsAt cause argumentCauses storeCauses first effect filterChange newEqs noteChange change add-all filterCodec filterRowsIn noteRowsIn
 disconnected-done {marks = marks} {from = from} {to = to} session id before (shaped v e) k h p q n m r t =
     let f = well-formed-fits v e in
     let test = cleared session id (v .notes) in

@@ -17,13 +17,13 @@ use Rattle.rule.specs.Refusals.{first}
 use Rattle.rule.specs.declared.Given.{Given}
 use Rattle.rule.specs.declared.Given.the-variants.{Absent, Length}
 use Rattle.store.specs.Store.{filterSize, eqSize, storeLength, View}
-use Rattle.store.specs.Layout.{filterCodec, numberedCodec, layout, filtersAt, eqsAt, textPart, filterPart, eqPart}
+use Rattle.store.specs.Layout.{layout, filtersAt, eqsAt}
 use Rattle.store.specs.View.{view}
 use Rattle.store.specs.Check.{shapeOf}
 use Rattle.store.specs.declared.Shape.{Shape}
 use Rattle.store.specs.declared.ShapeRead.the-variants.{LaidOut, Malformed}
-use Rattle.store.proofs.LayoutLaws.{Fits, eq-reads, filter-reads, counts-back, text-part, filter-part, eq-part, well-formed-fits}
-use Rattle.store.proofs.PartLaws.{cut-pad, used-read, shape-of, shape-is, seen-as, malformed-told, bounds-told}
+use Rattle.store.proofs.LayoutLaws.{Fits, well-formed-fits}
+use Rattle.store.proofs.PartLaws.{text-read, filters-read, eqs-read, shape-of, shape-is, seen-as, malformed-told, bounds-told}
 use Rattle.store.proofs.ViewLaws.{view-layout, view-well-formed}
 use Rattle.questions.specs.Question.{Question, Decision, kept, Reply, refuses, decides, connects, subscribes, publishes, codeLimit, overGiven, clientOver, questionCause}
 use Rattle.questions.specs.Question as question
@@ -67,22 +67,15 @@ module _ (s : List ℕ) {shape : Shape} {v : View} (e : shapeOf (view s) ≡ Lai
 
   -- the parts
   text-is : take (16 + shape .text - 16) (drop 16 s) ≡ v .text
-  unfolding textPart
-  text-is = cut-pad 16 (v .counts .bytes) (v .text) s (fits .text) (rw (counts-back v, laid-out) at (text-part v fits)) (ap (λ (x : Shape). x .text) is-shape)
+  text-is = rw (is-shape, ← laid-out) (text-read v fits)
 
   filters-are : {from : ℕ} → from ≡ filtersAt (shape .counts) → filterRows (take (from + shape .filters * filterSize - from) (drop from s)) ≡ v .filters
-  unfolding filterRows filterPart filterCodec
-  filters-are {from} p =
-      let begin : from ≡ filtersAt (v .counts) = p ∙ ap (λ (x : Shape). filtersAt (x .counts)) is-shape in
-      used-read filter-reads (omega arith) (v .counts .filters) (v .filters) (fits .filter-texts) (fits .filters) s from
-      (rw (counts-back v, laid-out, ← begin) at (filter-part v fits)) (ap (λ (x : Shape). x .filters) is-shape)
+  unfolding filterRows
+  filters-are p = rw (is-shape, ← laid-out) (filters-read v fits (p ∙ ap (λ (x : Shape). filtersAt (x .counts)) is-shape))
 
   eqs-are : {from : ℕ} → from ≡ eqsAt (shape .counts) → eqRows (take (from + shape .eqs * eqSize - from) (drop from s)) ≡ v .eqs
-  unfolding eqRows eqPart numberedCodec
-  eqs-are {from} p =
-      let begin : from ≡ eqsAt (v .counts) = p ∙ ap (λ (x : Shape). eqsAt (x .counts)) is-shape in
-      used-read eq-reads (omega arith) (v .counts .eqs) (v .eqs) (fits .eq-texts) (fits .eqs) s from
-      (rw (counts-back v, laid-out, ← begin) at (eq-part v fits)) (ap (λ (x : Shape). x .eqs) is-shape)
+  unfolding eqRows
+  eqs-are p = rw (is-shape, ← laid-out) (eqs-read v fits (p ∙ ap (λ (x : Shape). eqsAt (x .counts)) is-shape))
 
   -- what decides on the parts decides on what the store means
   pub decides-on : {filters eqs : ℕ} {answer : Deciding} (c : Client) (w : Wish) → filters ≡ filtersAt (shape .counts) → eqs ≡ eqsAt (shape .counts)

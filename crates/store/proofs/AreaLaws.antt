@@ -9,7 +9,7 @@ use native.Mathlib.Omega.{arith}
 use borrow.Author.Tests.{le-leb, lt-leb, ltb-true, ltb-false}
 use lib.Dec.{eqb, leb, ltb}
 use lib.ListN.{length, take, drop, replicate, length-append, length-map, replicate-append-replicate}
-use lib.Seq.{drop-drop, take-append-seam, take-append-le, drop-append-le, take-at, drop-at}
+use lib.Seq.{drop-drop, take-append-seam, take-append-le, drop-append-le, take-at}
 use Rattle.text.specs.Text.{same, fitsAt, pasted}
 use Rattle.text.proofs.Laws.{both-true, or-split, same-true, same-itself, pasted-fits, pasted-not}
 use Rattle.table.specs.Table.{some-row, keep, add, add-all}
@@ -22,7 +22,7 @@ use Rattle.table.proofs.ByteLaws.{cleared-fits}
 use Rattle.store.specs.declared.Counts.{Counts}
 use Rattle.store.specs.Store.{FilterRow, EqRow, NoteRow, View}
 use Rattle.store.specs.Layout.{pad, Codec, filterCodec, numberedCodec, eqCodec, noteCodec, putAll, area, header, layout, filtersAt, eqsAt, notesAt}
-use Rattle.store.proofs.LayoutLaws.{pad-length, pad-take, pad-drop, Reads, filter-reads, eq-reads, put-all-length, area-length, area-rows, area-unused, Fits, filter-area, eq-area, note-area, longFilter, longEq, longNote}
+use Rattle.store.proofs.LayoutLaws.{pad-length, pad-take, pad-drop, Reads, filter-reads, eq-reads, put-all-length, area-length, area-rows, area-unused, Fits, filter-area, eq-area, note-area, longFilter, longEq, longNote, from-eqs, from-notes}
 
 -- ---- padding
 
@@ -314,9 +314,6 @@ written at n from head head₁ front old new h e k =
       e,
     )
 
-behind : (from : ℕ) (head front rest : List ℕ) → length head + length front ≡ from → drop from (head ++ (front ++ rest)) ≡ rest
-behind from head front rest k = rw (← append-assoc head front rest) (drop-at (head ++ front) rest from (length-append head front ∙ k))
-
 -- a view with other rows in one table
 abbrev pub filters-set : View → List FilterRow → View
 filters-set v filters = record { counts = v .counts; text = v .text; filters = filters; eqs = v .eqs; notes = v .notes }
@@ -368,20 +365,12 @@ module _ (v : View) (f : Fits v) where
   to-notes : length (head-of v) + length (text-area v ++ (filter-area v ++ eq-area v)) ≡ notesAt (v .counts)
   to-notes = omega (arith, length-append (text-area v) (filter-area v ++ eq-area v), length-append (filter-area v) (eq-area v), to-filters, past-filters, past-eqs)
 
-  from-eqs : drop (eqsAt (v .counts)) (layout v) ≡ eq-area v ++ note-area v
-  unfolding layout
-  from-eqs = simp append-assoc at (behind _ (head-of v) (text-area v ++ filter-area v) (eq-area v ++ note-area v) to-eqs)
-
-  from-notes : drop (notesAt (v .counts)) (layout v) ≡ note-area v
-  unfolding layout
-  from-notes = simp append-assoc at (behind _ (head-of v) (text-area v ++ (filter-area v ++ eq-area v)) (note-area v) to-notes)
-
   pub with-filters : (filters : List FilterRow)
       → pasted 10 (u16 (length filters))
       (take (filtersAt (v .counts)) (layout v) ++ (area filterCodec (v .counts .filters) filters ++ drop (eqsAt (v .counts)) (layout v)))
       ≡ layout (filters-set v filters)
   with-filters filters =
-      rw from-eqs
+      rw (from-eqs v f)
       (unfold layout in
       written 10 _ _ (head-of v) _ (text-area v) _ _ (omega (arith, head-length v)) (filters-put _ _ _ _ _ (length filters)) to-filters)
 
@@ -390,7 +379,7 @@ module _ (v : View) (f : Fits v) where
       (take (eqsAt (v .counts)) (layout v) ++ (area eqCodec (v .counts .eqs) eqs ++ drop (notesAt (v .counts)) (layout v)))
       ≡ layout (eqs-set v eqs)
   with-eqs eqs =
-      rw from-notes
+      rw (from-notes v f)
       (unfold layout in
       simp append-assoc at
       (written 12 _ _ (head-of v) _ (text-area v ++ filter-area v) (eq-area v ++ note-area v) (eq-area (eqs-set v eqs) ++ note-area v)

@@ -253,11 +253,11 @@ module _ (v : View) (f : Fits v) where
   from-filters : drop (filtersAt (v .counts)) (layout v) ≡ filter-area v ++ (eq-area v ++ note-area v)
   from-filters = rw layout-top (drop-at (top-of v) _ _ top-length)
 
-  from-eqs : drop (eqsAt (v .counts)) (layout v) ≡ eq-area v ++ note-area v
+  pub from-eqs : drop (eqsAt (v .counts)) (layout v) ≡ eq-area v ++ note-area v
   unfolding eqsAt
   from-eqs = rw (← drop-drop (v .counts .filters * filterSize) (filtersAt (v .counts)) (layout v), from-filters) (drop-at (filter-area v) _ _ filters-length)
 
-  from-notes : drop (notesAt (v .counts)) (layout v) ≡ note-area v
+  pub from-notes : drop (notesAt (v .counts)) (layout v) ≡ note-area v
   unfolding notesAt
   from-notes = rw (← drop-drop (v .counts .eqs * eqSize) (eqsAt (v .counts)) (layout v), from-eqs) (drop-at (eq-area v) _ _ eqs-length)
 

@@ -1,6 +1,6 @@
 -- The parts of a store as the code cuts them: the whole rows from a place on, the used part of a stretch, and what a shape tells. Assumes nothing.
 use Prim.Native.Nat.{ℕ, _+_, _-_, _*_, _≤_, _<_}
-use mathlib.Core.Path.{_≡_, refl, sym, ap, _∙_}
+use mathlib.Core.Path.{_≡_, refl, sym, _∙_}
 use mathlib.Core.Bool.{Bool, true, false, _||_}
 use mathlib.Core.List.{List, [], _∷_, append-nil}
 use mathlib.Core.Option.{Option, none, some}
@@ -13,11 +13,11 @@ use Rattle.table.proofs.RowLaws.{rows-step, rows-short, rows-enough}
 use Rattle.store.specs.declared.Shape.{Shape}
 use Rattle.store.specs.declared.ShapeRead.{ShapeRead}
 use Rattle.store.specs.declared.ShapeRead.the-variants.{LaidOut, Malformed}
-use Rattle.store.specs.Store.{storeLength, View}
-use Rattle.store.specs.Layout.{Codec, pad, putAll, getAll, area, layout}
+use Rattle.store.specs.Store.{storeLength, filterSize, eqSize, noteSize, View}
+use Rattle.store.specs.Layout.{Codec, filterCodec, numberedCodec, eqCodec, noteCodec, pad, putAll, getAll, area, layout, filtersAt, eqsAt, notesAt, textPart, filterPart, eqPart, notePart}
 use Rattle.store.specs.View.{wellFormed, view}
 use Rattle.store.specs.Check.{shapeOf}
-use Rattle.store.proofs.LayoutLaws.{pad-take, Reads, put-all-length, area-back, layout-length, well-formed-parts, openable-parts, well-formed-fits}
+use Rattle.store.proofs.LayoutLaws.{pad-take, Reads, filter-reads, eq-reads, note-reads, put-all-length, area-back, Fits, filter-area, eq-area, note-area, counts-back, layout-length, text-part, filter-part, eq-part, note-part, well-formed-parts, openable-parts, well-formed-fits}
 use Rattle.store.proofs.OpenLaws.{InRange, fit-range}
 use Rattle.store.proofs.ViewLaws.{view-well-formed, view-layout}
 
@@ -62,7 +62,7 @@ module _ {Row : Type 0} (c : Codec Row) (at : ℕ) (s : List ℕ) where
 
 -- ---- the used part of a stretch
 
-pub cut-pad : {n : ℕ} (from width : ℕ) (text s : List ℕ) → length text ≤ width → take width (drop from s) ≡ pad width text → n ≡ length text
+cut-pad : {n : ℕ} (from width : ℕ) (text s : List ℕ) → length text ≤ width → take width (drop from s) ≡ pad width text → n ≡ length text
     → take (from + n - from) (drop from s) ≡ text
 cut-pad {n} from width text s h whole e = rw (add-sub-cancel-left from n, e, ← take-take (length text) width (drop from s) h, whole) (pad-take width text)
 
@@ -80,13 +80,46 @@ module _ {Row : Type 0} {c : Codec Row} {bad : Row → Bool} (R : Reads c bad) (
       rw same-rows (rw (unpadded, append-nil) at (area-back R 0 rs good))
 
   -- at a place of a store
-  pub used-read : {n : ℕ} (s : List ℕ) (at : ℕ) → take (room * c .size) (drop at s) ≡ area c room rs → n ≡ length rs
-      → let part = take (at + n * c .size - at) (drop at s) in getAll c (length part) part ≡ rs
+  used-read : (s : List ℕ) (at : ℕ) → take (room * c .size) (drop at s) ≡ area c room rs
+      → let part = take (at + length rs * c .size - at) (drop at s) in getAll c (length part) part ≡ rs
   unfolding area
-  used-read s at p e =
+  used-read s at p =
       let size = put-all-length R rs good in
       let there : length (putAll c rs) ≤ room * c .size = rw size (mul-le-mul-right (c .size) fits) in
-      rw (cut-pad at (room * c .size) (putAll c rs) s there p (ap (λ (n : ℕ). n * c .size) e ∙ sym size)) used-rows
+      rw (cut-pad at (room * c .size) (putAll c rs) s there p (sym size)) used-rows
+
+-- the used parts of a store as laid out
+module _ (v : View) (f : Fits v) where
+  pub text-read : take (16 + length (v .text) - 16) (drop 16 (layout v)) ≡ v .text
+  unfolding textPart
+  text-read = cut-pad 16 (v .counts .bytes) (v .text) (layout v) (f .text) (rw (counts-back v) at (text-part v f)) refl
+
+  pub filter-stretch : take (v .counts .filters * filterSize) (drop (filtersAt (v .counts)) (layout v)) ≡ filter-area v
+  unfolding filterPart
+  filter-stretch = rw (counts-back v) at (filter-part v f)
+
+  eq-stretch : take (v .counts .eqs * eqSize) (drop (eqsAt (v .counts)) (layout v)) ≡ eq-area v
+  unfolding eqPart
+  eq-stretch = rw (counts-back v) at (eq-part v f)
+
+  pub note-stretch : take (v .counts .notes * noteSize) (drop (notesAt (v .counts)) (layout v)) ≡ note-area v
+  unfolding notePart
+  note-stretch = rw (counts-back v) at (note-part v f)
+
+  pub filters-read : {from : ℕ} → from ≡ filtersAt (v .counts)
+      → let part = take (from + length (v .filters) * filterSize - from) (drop from (layout v)) in getAll filterCodec (length part) part ≡ v .filters
+  unfolding filterCodec
+  filters-read {from} p = used-read filter-reads (omega arith) _ _ (f .filter-texts) (f .filters) (layout v) from (rw p filter-stretch)
+
+  pub eqs-read : {from : ℕ} → from ≡ eqsAt (v .counts)
+      → let part = take (from + length (v .eqs) * eqSize - from) (drop from (layout v)) in getAll eqCodec (length part) part ≡ v .eqs
+  unfolding numberedCodec
+  eqs-read {from} p = used-read eq-reads (omega arith) _ _ (f .eq-texts) (f .eqs) (layout v) from (rw p eq-stretch)
+
+  pub notes-read : {from : ℕ} → from ≡ notesAt (v .counts)
+      → let part = take (from + length (v .notes) * noteSize - from) (drop from (layout v)) in getAll noteCodec (length part) part ≡ v .notes
+  unfolding numberedCodec
+  notes-read {from} p = used-read note-reads (omega arith) _ _ (f .note-texts) (f .notes) (layout v) from (rw p note-stretch)
 
 -- ---- what a shape tells of a store
 
