@@ -6,6 +6,7 @@ use crate::cases::{examples, word, Case, Kind, KINDS};
 use crate::generate::{self, is_readable, pad, Random, LIMIT};
 use crate::json;
 use crate::matching;
+use crate::rules;
 
 /// Lines of each kind and answer.
 const EACH: usize = 670;
@@ -44,9 +45,9 @@ impl Sample {
     }
 }
 
-/// The whole sample: the same bytes each time. Filters and matching come first.
+/// The whole sample: the same bytes each time. Filters and matching come first, rules last.
 pub fn sample() -> Vec<u8> {
-    [matches().into_bytes(), json::sample::sample()].concat()
+    [matches().into_bytes(), json::sample::sample(), rules::sample::sample()].concat()
 }
 
 fn matches() -> String {

@@ -2,6 +2,7 @@
 //! document 01 is narrower.
 
 pub mod generate;
+pub mod sample;
 pub mod short;
 
 use std::net::IpAddr;
