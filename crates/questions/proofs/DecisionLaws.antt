@@ -162,13 +162,13 @@ module _ (someFilter : (FilterRow → Bool) → Bool) (someEq : (EqRow → Bool)
       ∙ sym (and-assoc (coversAsked (r .control) asked) (agrees (means r) c) (topicsHold someFilter someEq n (c .id) topic line (topicsFor asked (topicsPlace (fourthOf (lineValue line))))))
 
   -- what a head says of the first rule that agrees: its line is passed, or has a rule
-  abbrev HeadSays : Head → Type 0
+  abbrev pub HeadSays : Head → Type 0
   HeadSays Differs =
       (rest : List (Option Meaning))
       → firstFrom someFilter someEq c (wishOf asked topic) n (ruleOn (readRule line) ∷ rest) ≡ firstFrom someFilter someEq c (wishOf asked topic) (suc n) rest
   HeadSays (Agrees allow flag topics) = Headed someFilter someEq c asked topic n line allow flag topics
 
-  head-says : {head : Head} → headAt c asked line ≡ head → HeadSays head
+  pub head-says : {head : Head} → headAt c asked line ≡ head → HeadSays head
   unfolding headAt headOf ruleOn firstFrom
   head-says e = subst HeadSays e (by (readRule line) refl)
     where

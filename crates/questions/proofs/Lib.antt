@@ -1,3 +1,4 @@
 pub mod HeadLaws
 pub mod DecisionLaws
+pub mod AgreeLaws
 pub mod AskLaws

@@ -13,7 +13,7 @@ use Rattle.json.specs.declared.Place.the-variants.{At, Nowhere}
 use Rattle.table.specs.Table.{some-row}
 use Rattle.rule.specs.Limits.{textLimit}
 use Rattle.rule.specs.Rule.{Rule, Meaning, means, topicOf, topicMeans}
-use Rattle.rule.specs.RuleText.{Result, refused, gives, readRule, rulesOf}
+use Rattle.rule.specs.RuleText.{Result, refused, gives, readRule, ruleOn, rulesOf}
 use Rattle.rule.specs.Identity.{Client, agrees, superuser}
 use Rattle.rule.specs.Places.{valueOf, topicsPlace, fourthOf}
 use Rattle.rule.specs.declared.Control.{Control}
@@ -29,7 +29,7 @@ use Rattle.questions.specs.declared.Head.{Head}
 use Rattle.questions.specs.declared.Head.the-variants.{Agrees, Differs}
 use Rattle.questions.specs.declared.Deciding.{Deciding}
 use Rattle.questions.specs.declared.Deciding.the-variants.{Rule as ByRule, NoRule}
-use Rattle.questions.specs.Decision.{Wish, to-connect, to-subscribe, to-publish, covers, staticAgrees, firstFrom}
+use Rattle.questions.specs.Decision.{Wish, to-connect, to-subscribe, to-publish, covers, staticAgrees, ruleAgrees, firstFrom}
 
 -- what is asked, with the topic beside it
 unfoldable pub wishOf : Asked → List ℕ → Wish
@@ -81,6 +81,14 @@ unfoldable pub someTopicFrom : List ℕ → ℕ → List ℕ → Place → Bool
 someTopicFrom topic zero line place = false
 someTopicFrom topic (suc most) line Nowhere = false
 someTopicFrom topic (suc most) line (At p) = topicAgreesAt topic line p || someTopicFrom topic most line (nextItem line p)
+
+-- rule n, counted from 0, of a line agrees; a line that is no rule agrees with nothing
+unfoldable pub lineAgrees : Client → Wish → ℕ → List ℕ → List ℕ → List ℕ → Bool
+lineAgrees c w n line filters eqs =
+    elim (ruleOn (readRule line)) [
+      | none ↦ false
+      | some r ↦ ruleAgrees (λ p. some-row p (filterRows filters)) (λ p. some-row p (eqRows eqs)) c w n r
+    ]
 
 -- the first rule that agrees
 unfoldable pub decidingOf : Option (ℕ × Meaning) → Deciding

@@ -30,6 +30,7 @@ use store::rows::numbered_text;
 use table::number_at;
 use topic::tree_match;
 ghost use mathlib.Core.Path.{_≡_};
+ghost use lib.ListN.{length};
 ghost use Rattle.rule.specs.Places.{given};
 ghost use Rattle.table.specs.Table.{«some-row»};
 ghost use Rattle.questions.specs.Decision as decision;
@@ -177,6 +178,74 @@ fn filter_row_agrees(filters: &[u8], rule: usize, id: &[u8], topic: &[u8]) -> bo
         at = next;
     }
     false
+}
+
+// Does one of the topics from this place on agree by itself?
+fn some_topic_agrees(line: &[u8], first: Place, topic: &[u8]) -> bool
+    ensures { λ r. ⌜ r ≡ spec.someTopicFrom (now (topic .entry)) (length (now (line .entry))) (now (line .entry)) first ⌝ }
+{
+    let mut next = first;
+    let mut turns = line.len();
+    while turns > 0 {
+        match next {
+            Place::Nowhere => {
+                return false;
+            }
+            Place::At(p) => {
+                if topic_agrees(line, p, topic) {
+                    return true;
+                }
+                next = next_item(line, p);
+                turns -= 1;
+            }
+        }
+    }
+    false
+}
+
+// Does the rule of a line agree, whose number, from 0, this is? A line that is no rule agrees with nothing.
+pub fn rule_agrees(
+    line: &[u8],
+    rule: usize,
+    filters: &[u8],
+    eqs: &[u8],
+    asked: Asked,
+    id: &[u8],
+    name: Given,
+    names: &[u8],
+    password: Given,
+    passwords: &[u8],
+    address: Given,
+    addresses: &[u8],
+    protocol: Protocol,
+    topic: &[u8],
+) -> bool
+    ensures { λ r. ⌜ r ≡ spec.lineAgrees (record { id = now (id .entry); name = given name (now (names .entry)); password = given password (now (passwords .entry)); address = given address (now (addresses .entry)); protocol = spec.protocolOf protocol }) (spec.wishOf asked (now (topic .entry))) rule (now (line .entry)) (now (filters .entry)) (now (eqs .entry)) ⌝ }
+{
+    let Head::Agrees(_, _, topics) = head(
+        line,
+        asked,
+        id,
+        name,
+        names,
+        password,
+        passwords,
+        address,
+        addresses,
+        protocol,
+    ) else {
+        return false;
+    };
+    let Topics::Listed(array) = topics else {
+        return true;
+    };
+    if some_topic_agrees(line, first_element(line, array), topic) {
+        return true;
+    }
+    if eq_row_agrees(eqs, rule, topic) {
+        return true;
+    }
+    filter_row_agrees(filters, rule, id, topic)
 }
 
 // "The first rule whose control, users and topics all agree decides."
