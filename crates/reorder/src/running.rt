@@ -1,0 +1,97 @@
+// Runs of the events in an order, and what two of them have in common.
+use crate::LENGTH;
+use crate::listing;
+use crate::listing::listed;
+
+pub const EVENTS: usize = 15;
+
+// An answer for each event at its number; the first is of none.
+pub const ANSWERS: usize = 16;
+
+// Keeps the answer of an event at its number.
+fn keep(answers: &mut [u64; ANSWERS], n: u8, answer: u64) {
+    let at = n as usize;
+    if at < ANSWERS {
+        answers[at] = answer;
+    }
+}
+
+// Hands the events to the store in this order, and keeps their answers.
+pub fn run(store: &mut [u8; LENGTH], order: &[u8; EVENTS], answers: &mut [u64; ANSWERS]) {
+    let mut i = 0;
+    while i < EVENTS {
+        let n = order[i];
+        let answer = listing::happen(store, n);
+        keep(answers, n, answer);
+        i += 1;
+    }
+}
+
+// Are the same events refused?
+pub fn same_refused(answers: &[u64; ANSWERS], others: &[u64; ANSWERS]) -> bool {
+    let mut i = 0;
+    while i < ANSWERS {
+        if (answers[i] == 0) != (others[i] == 0) {
+            return false;
+        }
+        i += 1;
+    }
+    true
+}
+
+// Do the two events share a client id or a session number?
+fn share(m: u8, n: u8) -> bool {
+    let one = listed(m);
+    let other = listed(n);
+    if listing::session(one) == listing::session(other) {
+        return true;
+    }
+    let client = listing::client(one);
+    if client == 0 {
+        return false;
+    }
+    client == listing::client(other)
+}
+
+// From this place on, is there neither `n` itself nor an event that is listed before it and shares a client id or a session number
+// with it?
+fn keeps_one(order: &[u8; EVENTS], at: usize, n: u8) -> bool {
+    let mut i = at;
+    while i < EVENTS {
+        let later = order[i];
+        if later == n {
+            return false;
+        }
+        if later < n {
+            if share(n, later) {
+                return false;
+            }
+        }
+        i += 1;
+    }
+    true
+}
+
+// The same, and is `n` the number of an event?
+fn fits(order: &[u8; EVENTS], at: usize, n: u8) -> bool {
+    if n == 0 {
+        return false;
+    }
+    if EVENTS < n as usize {
+        return false;
+    }
+    keeps_one(order, at, n)
+}
+
+// Is it an order of all events, each once, in which those that share a client id or a session number keep their order?
+pub fn keeps(order: &[u8; EVENTS]) -> bool {
+    let mut i = 0;
+    while i < EVENTS {
+        let n = order[i];
+        i += 1;
+        if !fits(order, i, n) {
+            return false;
+        }
+    }
+    true
+}
