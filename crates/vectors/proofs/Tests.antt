@@ -1,26 +1,21 @@
 -- What a line's first field and its last come to, by the tests that the code makes. Assumes nothing.
-use Prim.Native.Nat.{ℕ}
+use Prim.Native.Nat.{ℕ, _+_}
 use native.Mathlib.Omega.{arith}
 use mathlib.Core.Path.{_≡_, refl, sym, ap, _∙_}
-use mathlib.Core.Bool.{Bool, true, false, not, cond}
+use mathlib.Core.Bool.{Bool, true, false, not, cond, _&&_}
 use mathlib.Core.List.{List, [], _∷_}
-use mathlib.Core.Option.{Option}
+use lib.Dec.{eqb}
 use lib.ListN.{length, getD}
 use borrow.Author.Tests.{ne-eqb}
 use Rattle.text.specs.Ascii.{ascii}
 use Rattle.text.specs.Text.{same}
 use Rattle.text.proofs.Laws.{same-lengths}
-use Rattle.rule.specs.Rule.{Rule, Value}
-use Rattle.rule.specs.RuleText.{Result, refused, gives}
-use Rattle.rule.specs.Places.{ruleAnswer}
-use Rattle.rule.specs.declared.RuleRead.{RuleRead}
-use Rattle.rule.specs.declared.RuleRead.the-variants.{Refused, Rule as RuleIs}
 use Rattle.vectors.specs.declared.judging.Kind.{Kind}
 use Rattle.vectors.specs.declared.judging.Named.{Named}
 use Rattle.vectors.specs.declared.judging.Named.the-variants.{Nothing}
 use Rattle.vectors.specs.declared.judging.Judged.the-variants.{Malformed}
 use Rattle.vectors.specs.Fields.{field}
-use Rattle.vectors.specs.Judging.{kindOf, verdict, compared, isRule, judgeNamed, judge}
+use Rattle.vectors.specs.Judging.{kindOf, verdict, compared, isDigit, judgeNamed, judge}
 
 -- a word of one byte is that byte
 pub kind-letter : (word : List ℕ) → length word ≡ 1 → {b : ℕ} → getD word 0 0 ≡ b → kindOf word ≡ kindOf (b ∷ [])
@@ -44,19 +39,20 @@ pub compared-by : (kind : Kind) (answer : Bool) (recorded : List ℕ) {yes no : 
 unfolding compared
 compared-by kind answer recorded e f = rw (e, f)
 
--- is a line a rule, by what the code read
-unfoldable pub ruleRead : RuleRead → Bool
-ruleRead (Refused cause) = false
-ruleRead (RuleIs r) = true
+-- a recorded digit is one byte
+pub digit-long : (answer : ℕ) (recorded : List ℕ) → (length recorded ≡ 1 → ⊥) → isDigit answer recorded ≡ false
+unfolding isDigit
+digit-long answer recorded l = same-lengths recorded ((answer + 48) ∷ []) l
 
-pub rule-by : (topics : Option Value) (result : Result Rule) {answer read : RuleRead} →
-    answer ≡ ruleAnswer topics result → answer ≡ read → isRule result ≡ ruleRead read
-unfolding isRule ruleRead ruleAnswer
-rule-by topics result e f = same-answer result ∙ ap ruleRead (sym e ∙ f)
+pub digit-one : (answer : ℕ) (recorded : List ℕ) → length recorded ≡ 1 → isDigit answer recorded ≡ eqb (getD recorded 0 0) (answer + 48)
+unfolding isDigit same
+digit-one answer [] l = absurd (omega arith)
+digit-one answer (a ∷ []) l = only (eqb a (answer + 48))
   where
-    same-answer : (result : Result Rule) → isRule result ≡ ruleRead (ruleAnswer topics result)
-    same-answer (refused cause) = refl
-    same-answer (gives r) = refl
+    only : (b : Bool) → b && true ≡ b
+    only true = refl
+    only false = refl
+digit-one answer (a ∷ b ∷ recorded) l = absurd (omega arith)
 
 -- the line by what its first field names
 pub judge-by : (line word : List ℕ) {named n : Named} → named ≡ kindOf word → word ≡ field 0 line → named ≡ n → judge line ≡ judgeNamed line n

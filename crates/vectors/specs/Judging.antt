@@ -1,14 +1,13 @@
 -- What a recorded line means, and whether the definitions of document 01 give its answer.
-use Prim.Native.Nat.{ℕ}
+use Prim.Native.Nat.{ℕ, _+_}
 use mathlib.Core.Bool.{Bool, true, false, not, cond}
-use mathlib.Core.List.{List}
+use mathlib.Core.List.{List, [], _∷_}
 use Rattle.text.specs.Ascii.{ascii}
 use Rattle.text.specs.Text.{same}
 use Rattle.topic.specs.Topic.{validFilter, treeMatch, plainMatch}
 use Rattle.json.specs.Json.{lineValue}
 use Rattle.json.specs.Access.{isDocument, documentWithin}
-use Rattle.rule.specs.Rule.{Rule}
-use Rattle.rule.specs.RuleText.{Result, refused, gives, readRule}
+use Rattle.ffi.specs.Rules.{refusalOf}
 use Rattle.vectors.specs.Fields.{rest, field}
 use Rattle.vectors.specs.declared.judging.Kind.{Kind}
 use Rattle.vectors.specs.declared.judging.Kind.the-variants.{Valid, Tree, Plain, Document, Within, RuleLine}
@@ -28,27 +27,26 @@ kindOf word =
 abbrev pub verdict : Kind → Bool → Judged
 verdict kind agrees = cond agrees (Agrees kind) (Differs kind)
 
--- a recorded answer is `yes` or `no`
+-- a recorded answer is `yes` or `no` ..
 unfoldable pub compared : Kind → Bool → List ℕ → Judged
 compared kind answer recorded =
     cond (same recorded (ascii "yes")) (verdict kind answer)
     (cond (same recorded (ascii "no")) (verdict kind (not answer)) Malformed)
 
--- is a line that reads so a rule of document 01?
-unfoldable pub isRule : Result Rule → Bool
-isRule (refused cause) = false
-isRule (gives r) = true
+-- .. or, of `R`, this digit; any other text differs
+unfoldable pub isDigit : ℕ → List ℕ → Bool
+isDigit answer recorded = same recorded ((answer + 48) ∷ [])
 
 -- what a line of this kind asks, and its recorded answer: `V`, text, answer; `T`, filter, text, answer; `P` likewise. The answer is all
--- that is left of the line, so that no field is left over. `J`, answer, JSON line; `L` and `R` likewise: the line of JSON or of a rule is
--- all that is left
+-- that is left of the line, so that no field is left over. `J`, answer, JSON line; `L` likewise; `R`, 0 or the number of document 01, rule line:
+-- the line of JSON or of a rule is all that is left
 unfoldable pub asked : List ℕ → Kind → Judged
 asked line Valid = compared Valid (validFilter (field 1 line)) (rest 2 line)
 asked line Tree = compared Tree (treeMatch (field 1 line) (field 2 line)) (rest 3 line)
 asked line Plain = compared Plain (plainMatch (field 1 line) (field 2 line)) (rest 3 line)
 asked line Document = compared Document (isDocument (lineValue (rest 2 line))) (field 1 line)
 asked line Within = compared Within (documentWithin 256 (lineValue (rest 2 line))) (field 1 line)
-asked line RuleLine = compared RuleLine (isRule (readRule (rest 2 line))) (field 1 line)
+asked line RuleLine = verdict RuleLine (isDigit (refusalOf (rest 2 line)) (field 1 line))
 
 -- what a line comes to
 unfoldable pub judgeNamed : List ℕ → Named → Judged

@@ -2,14 +2,11 @@
 // `kind_of`, a function of its own and an arm of `judge`, a clause each in specs/Judging.antt, and a place in `tallies`.
 use crate::fields::field;
 use crate::fields::rest;
-use rule::RuleRead;
-use rule::read::read_rule;
 ghost use mathlib.Core.Path.{_≡_};
-ghost use Rattle.rule.specs.RuleText as rule_spec;
 ghost use Rattle.vectors.specs.Judging as spec;
 
 // The kinds of questions: is it a valid filter (`V`), Tree match (`T`), Plain match (`P`), is it a JSON document (`J`), one whose
-// strings are within the limit (`L`), and is it a rule (`R`).
+// strings are within the limit (`L`), and is it a rule, or why not (`R`).
 pub enum Kind {
     Valid,
     Tree,
@@ -116,22 +113,22 @@ fn within_line(line: &[u8]) -> Judged
     compared(Kind::Within, answer, field(line, 1))
 }
 
-// Is the line a plugin rule?
-fn is_rule(line: &[u8]) -> bool
-    ensures { λ r. ⌜ r ≡ spec.isRule (rule_spec.readRule (now (line .entry))) ⌝ }
+// Is the recorded answer this digit?
+fn is_digit(answer: u8, recorded: &[u8]) -> bool
+    ensures { λ r. ⌜ r ≡ spec.isDigit answer (now (recorded .entry)) ⌝ }
 {
-    match read_rule(line) {
-        RuleRead::Rule(_) => true,
-        RuleRead::Refused(_) => false,
+    if recorded.len() != 1 {
+        return false;
     }
+    recorded[0] as u32 == answer as u32 + 48
 }
 
-// A line `R`, answer, rule line.
+// A line `R`, number of document 01 or 0, rule line.
 fn rule_line(line: &[u8]) -> Judged
     ensures { λ r. ⌜ r ≡ spec.asked (now (line .entry)) Kind.RuleLine ⌝ }
 {
-    let answer = is_rule(rest(line, 2));
-    compared(Kind::RuleLine, answer, field(line, 1))
+    let answer = ffi::acl_rule_refusal(rest(line, 2));
+    verdict(Kind::RuleLine, is_digit(answer, field(line, 1)))
 }
 
 // Does the line's answer agree with what this port answers?

@@ -1,11 +1,10 @@
-//! The sample's rule lines: `R`, the answer, and the line, which is all behind the
-//! second TAB and may hold any byte but LF.
+//! The sample's rule lines: `R`, document 01's number or 0 for a rule, and the line,
+//! which is all behind the second TAB and may hold any byte but LF.
 
 use std::collections::HashSet;
 
 use super::short::{ACCESS, CONTROL, RULES, TOPICS, USERS};
 use super::{generate, judge, LINE, TOPICS as MOST};
-use crate::cases::word;
 use crate::generate::{Random, LIMIT};
 
 /// Lines of each of document 01's numbers, at least.
@@ -29,7 +28,7 @@ impl Sample {
         if self.seen.insert(line.to_vec()) {
             let place = place(line);
             self.counts[place] += 1;
-            self.lines.extend([b"R\t", word(NUMBERS[place] == 0).as_bytes(), b"\t", line, b"\n"].concat());
+            self.lines.extend([b"R\t", NUMBERS[place].to_string().as_bytes(), b"\t", line, b"\n"].concat());
         }
     }
 

@@ -1,8 +1,8 @@
 -- The answer to the line's question, against the recorded one. Assumes nothing.
 use mathlib.Core.Path.{ap, ap₂, _∙_}
-use Rattle.rule.specs.RuleText.{readRule}
+use Rattle.ffi.specs.Rules.{refusalOf}
 use Rattle.vectors.specs.declared.judging.Kind.the-variants.{RuleLine}
-use Rattle.vectors.specs.Judging.{compared, isRule, asked}
+use Rattle.vectors.specs.Judging.{verdict, isDigit, asked}
 use borrow.Author.Needs.{needs}
 use Rattle.vectors.proofs.judging.rule_line.Statement.{statement}
 use Rattle.vectors.proofs.judging.rule_line.Tie as tie
@@ -10,20 +10,27 @@ use Rattle.vectors.proofs.judging.rule_line.Tie as tie
 rest-requires : tie.Need-rest-requires
 rest-requires c κs = search needs
 
-is-rule-requires : tie.Need-is-rule-requires
-is-rule-requires c κs = search needs
+acl-rule-refusal-requires : tie.Need-acl-rule-refusal-requires
+acl-rule-refusal-requires c κs = search needs
 
 field-requires : tie.Need-field-requires
 field-requires c κs = search needs
 
-compared-requires : tie.Need-compared-requires
-compared-requires c κs = search needs
+is-digit-requires : tie.Need-is-digit-requires
+is-digit-requires c κs = search needs
+
+verdict-requires : tie.Need-verdict-requires
+verdict-requires c κs = search needs
 
 returns : tie.Need-returns
 unfolding asked
-returns c = c .compared .ensures ∙ ap₂ (compared RuleLine) (c .before .before .is-rule .ensures ∙ ap (λ l. isRule (readRule l)) (c .before .before .before .rest .ensures)) (c .before .field .ensures)
+returns c =
+    c .verdict .ensures
+    ∙ ap (verdict RuleLine)
+    (c .before .is-digit .ensures
+    ∙ ap₂ isDigit (c .before .before .before .acl-rule-refusal .ensures ∙ ap refusalOf (c .before .before .before .before .rest .ensures)) (c .before .before .field .ensures))
 
 pub rule-line-spec : {M : Type 1} → statement M
 rule-line-spec =
     tie.close
-    (tie.spec rest-requires is-rule-requires field-requires compared-requires returns)
+    (tie.spec rest-requires acl-rule-refusal-requires field-requires is-digit-requires verdict-requires returns)
