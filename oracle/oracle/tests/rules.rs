@@ -41,6 +41,15 @@ fn rules_by_hand() {
     }
 }
 
+/// The lines of the sample that were judged by hand.
+#[test]
+fn judged_lines() {
+    for line in include_str!("../../judged.tsv").lines() {
+        let [_, number, rule] = line.splitn(3, '\t').collect::<Vec<_>>()[..] else { panic!("{line}") };
+        assert_eq!(judge(rule.as_bytes()).verdict.number().to_string(), number, "{rule}");
+    }
+}
+
 #[test]
 fn identities_by_hand() {
     let client = Client {
