@@ -1,10 +1,10 @@
--- What a line's first field and its last come to, by the tests that the code makes. Assumes nothing.
-use Prim.Native.Nat.{ℕ, _+_}
+-- What a line's fields come to, by the tests that the code makes. Assumes nothing.
+use Prim.Native.Nat.{ℕ, _+_, _<_, _≤_}
 use native.Mathlib.Omega.{arith}
 use mathlib.Core.Path.{_≡_, refl, sym, ap, _∙_}
 use mathlib.Core.Bool.{Bool, true, false, not, cond, _&&_}
 use mathlib.Core.List.{List, [], _∷_}
-use lib.Dec.{eqb}
+use lib.Dec.{eqb, ltb}
 use lib.ListN.{length, getD}
 use borrow.Author.Tests.{ne-eqb}
 use Rattle.text.specs.Ascii.{ascii}
@@ -14,7 +14,7 @@ use Rattle.vectors.specs.declared.judging.Kind.{Kind}
 use Rattle.vectors.specs.declared.judging.Named.{Named}
 use Rattle.vectors.specs.declared.judging.Named.the-variants.{Nothing}
 use Rattle.vectors.specs.declared.judging.Judged.the-variants.{Malformed}
-use Rattle.vectors.specs.Fields.{field}
+use Rattle.vectors.specs.Fields.{field, isGiven, lent, number}
 use Rattle.vectors.specs.Judging.{kindOf, verdict, compared, isDigit, judgeNamed, judge}
 
 -- a word of one byte is that byte
@@ -24,14 +24,14 @@ kind-letter (a ∷ []) l e = ap (λ b. kindOf (b ∷ [])) e
 kind-letter (a ∷ b ∷ word) l e = absurd (omega arith)
 
 pub kind-other : (word : List ℕ) → length word ≡ 1 →
-    (getD word 0 0 ≡ 86 → ⊥) → (getD word 0 0 ≡ 84 → ⊥) → (getD word 0 0 ≡ 80 → ⊥) → (getD word 0 0 ≡ 74 → ⊥) → (getD word 0 0 ≡ 76 → ⊥) → (getD word 0 0 ≡ 82 → ⊥) → kindOf word ≡ Nothing
+    (getD word 0 0 ≡ 86 → ⊥) → (getD word 0 0 ≡ 84 → ⊥) → (getD word 0 0 ≡ 80 → ⊥) → (getD word 0 0 ≡ 74 → ⊥) → (getD word 0 0 ≡ 76 → ⊥) → (getD word 0 0 ≡ 82 → ⊥) → (getD word 0 0 ≡ 73 → ⊥) → kindOf word ≡ Nothing
 unfolding kindOf same
-kind-other word l v t p j m r = kind-letter word l refl ∙ (rw (ne-eqb _ _ v, ne-eqb _ _ t, ne-eqb _ _ p, ne-eqb _ _ j, ne-eqb _ _ m, ne-eqb _ _ r))
+kind-other word l v t p j m r i = kind-letter word l refl ∙ (rw (ne-eqb _ _ v, ne-eqb _ _ t, ne-eqb _ _ p, ne-eqb _ _ j, ne-eqb _ _ m, ne-eqb _ _ r, ne-eqb _ _ i))
 
 -- a word of another length is none
 pub kind-long : (word : List ℕ) → (length word ≡ 1 → ⊥) → kindOf word ≡ Nothing
 unfolding kindOf
-kind-long word l = rw (same-lengths word (ascii "V") l, same-lengths word (ascii "T") l, same-lengths word (ascii "P") l, same-lengths word (ascii "J") l, same-lengths word (ascii "L") l, same-lengths word (ascii "R") l)
+kind-long word l = rw (same-lengths word (ascii "V") l, same-lengths word (ascii "T") l, same-lengths word (ascii "P") l, same-lengths word (ascii "J") l, same-lengths word (ascii "L") l, same-lengths word (ascii "R") l, same-lengths word (ascii "I") l)
 
 pub compared-by : (kind : Kind) (answer : Bool) (recorded : List ℕ) {yes no : Bool} →
     same recorded (ascii "yes") ≡ yes → same recorded (ascii "no") ≡ no →
@@ -53,6 +53,28 @@ digit-one answer (a ∷ []) l = only (eqb a (answer + 48))
     only true = refl
     only false = refl
 digit-one answer (a ∷ b ∷ recorded) l = absurd (omega arith)
+
+-- an optional field, and one that is too short
+pub given-none : (text : List ℕ) → length text ≤ 0 → ltb 0 (length text) ≡ isGiven text
+unfolding isGiven
+given-none [] l = refl
+given-none (b ∷ text) l = absurd (omega arith)
+
+pub given-byte : (text : List ℕ) → 0 < length text → eqb (getD text 0 0) 61 ≡ isGiven text
+unfolding isGiven
+given-byte [] l = absurd (omega arith)
+given-byte (b ∷ text) l = refl
+
+pub lent-none : (text : List ℕ) → length text ≡ 0 → text ≡ lent text
+unfolding lent
+lent-none [] l = refl
+lent-none (b ∷ text) l = absurd (omega arith)
+
+pub number-none : (text : List ℕ) → length text < 2 → 0 ≡ number text
+unfolding number
+number-none [] l = refl
+number-none (a ∷ []) l = refl
+number-none (a ∷ b ∷ text) l = absurd (omega arith)
 
 -- the line by what its first field names
 pub judge-by : (line word : List ℕ) {named n : Named} → named ≡ kindOf word → word ≡ field 0 line → named ≡ n → judge line ≡ judgeNamed line n

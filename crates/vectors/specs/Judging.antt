@@ -2,15 +2,16 @@
 use Prim.Native.Nat.{ℕ, _+_}
 use mathlib.Core.Bool.{Bool, true, false, not, cond}
 use mathlib.Core.List.{List, [], _∷_}
+use mathlib.Core.Option.{Option}
 use Rattle.text.specs.Ascii.{ascii}
 use Rattle.text.specs.Text.{same}
 use Rattle.topic.specs.Topic.{validFilter, treeMatch, plainMatch}
 use Rattle.json.specs.Json.{lineValue}
 use Rattle.json.specs.Access.{isDocument, documentWithin}
-use Rattle.ffi.specs.Rules.{refusalOf}
-use Rattle.vectors.specs.Fields.{rest, field}
+use Rattle.ffi.specs.Rules.{where-true, refusalOf, identityOf}
+use Rattle.vectors.specs.Fields.{rest, field, isGiven, lent, number}
 use Rattle.vectors.specs.declared.judging.Kind.{Kind}
-use Rattle.vectors.specs.declared.judging.Kind.the-variants.{Valid, Tree, Plain, Document, Within, RuleLine}
+use Rattle.vectors.specs.declared.judging.Kind.the-variants.{Valid, Tree, Plain, Document, Within, RuleLine, Identity}
 use Rattle.vectors.specs.declared.judging.Named.{Named}
 use Rattle.vectors.specs.declared.judging.Named.the-variants.{Of, Nothing}
 use Rattle.vectors.specs.declared.judging.Judged.{Judged}
@@ -22,7 +23,7 @@ kindOf word =
     cond (same word (ascii "V")) (Of Valid)
     (cond (same word (ascii "T")) (Of Tree)
     (cond (same word (ascii "P")) (Of Plain)
-    (cond (same word (ascii "J")) (Of Document) (cond (same word (ascii "L")) (Of Within) (cond (same word (ascii "R")) (Of RuleLine) Nothing)))))
+    (cond (same word (ascii "J")) (Of Document) (cond (same word (ascii "L")) (Of Within) (cond (same word (ascii "R")) (Of RuleLine) (cond (same word (ascii "I")) (Of Identity) Nothing))))))
 
 abbrev pub verdict : Kind → Bool → Judged
 verdict kind agrees = cond agrees (Agrees kind) (Differs kind)
@@ -33,13 +34,23 @@ compared kind answer recorded =
     cond (same recorded (ascii "yes")) (verdict kind answer)
     (cond (same recorded (ascii "no")) (verdict kind (not answer)) Malformed)
 
--- .. or, of `R`, this digit; any other text differs
+-- .. or, of `R` and `I`, this digit; any other text differs
 unfoldable pub isDigit : ℕ → List ℕ → Bool
 isDigit answer recorded = same recorded ((answer + 48) ∷ [])
 
+-- the text of an optional field, where it is given
+unfoldable pub textIn : List ℕ → Option (List ℕ)
+textIn text = where-true (isGiven text) (lent text)
+
+-- does the rule mean the client?
+unfoldable pub identityAsked : List ℕ → ℕ
+identityAsked line =
+    identityOf (rest 7 line) (field 2 line) (textIn (field 3 line)) (textIn (field 4 line)) (textIn (field 5 line)) (where-true (isGiven (field 6 line)) (number (field 6 line)))
+
 -- what a line of this kind asks, and its recorded answer: `V`, text, answer; `T`, filter, text, answer; `P` likewise. The answer is all
 -- that is left of the line, so that no field is left over. `J`, answer, JSON line; `L` likewise; `R`, 0 or the number of document 01, rule line:
--- the line of JSON or of a rule is all that is left
+-- the line of JSON or of a rule is all that is left. `I`, 0 they differ, 1 they agree, 2 they agree with the superuser flag or 3 no rule, client id,
+-- name, password, address, protocol, rule line: the four before the rule line are optional
 unfoldable pub asked : List ℕ → Kind → Judged
 asked line Valid = compared Valid (validFilter (field 1 line)) (rest 2 line)
 asked line Tree = compared Tree (treeMatch (field 1 line) (field 2 line)) (rest 3 line)
@@ -47,6 +58,7 @@ asked line Plain = compared Plain (plainMatch (field 1 line) (field 2 line)) (re
 asked line Document = compared Document (isDocument (lineValue (rest 2 line))) (field 1 line)
 asked line Within = compared Within (documentWithin 256 (lineValue (rest 2 line))) (field 1 line)
 asked line RuleLine = verdict RuleLine (isDigit (refusalOf (rest 2 line)) (field 1 line))
+asked line Identity = verdict Identity (isDigit (identityAsked line) (field 1 line))
 
 -- what a line comes to
 unfoldable pub judgeNamed : List ℕ → Named → Judged

@@ -40,3 +40,30 @@ pub fn field(line: &[u8], n: usize) -> &[u8]
 {
     first(rest(line, n))
 }
+
+// Is the optional value of this field given? Then `=` stands before it, else `-`.
+pub fn is_given(text: &[u8]) -> bool
+    ensures { λ r. ⌜ r ≡ spec.isGiven (now (text .entry)) ⌝ }
+{
+    text.len() > 0 && text[0] == b'='
+}
+
+// The value behind that byte.
+pub fn lent(text: &[u8]) -> &[u8]
+    ensures { λ r. ⌜ now r ≡ spec.lent (now (text .entry)) ⌝ }
+{
+    if text.len() == 0 {
+        return text;
+    }
+    &text[1..]
+}
+
+// The value as a number, which is its first byte; 0 where there is none.
+pub fn number(text: &[u8]) -> u8
+    ensures { λ r. ⌜ r ≡ spec.number (now (text .entry)) ⌝ }
+{
+    if text.len() < 2 {
+        return 0;
+    }
+    text[1]
+}

@@ -1,12 +1,15 @@
 // What a recorded line asks, and whether this port gives its answer. A further kind of line is a variant of `Kind`, a letter in
 // `kind_of`, a function of its own and an arm of `judge`, a clause each in specs/Judging.antt, and a place in `tallies`.
 use crate::fields::field;
+use crate::fields::is_given;
+use crate::fields::lent;
+use crate::fields::number;
 use crate::fields::rest;
 ghost use mathlib.Core.Path.{_≡_};
 ghost use Rattle.vectors.specs.Judging as spec;
 
 // The kinds of questions: is it a valid filter (`V`), Tree match (`T`), Plain match (`P`), is it a JSON document (`J`), one whose
-// strings are within the limit (`L`), and is it a rule, or why not (`R`).
+// strings are within the limit (`L`), is it a rule, or why not (`R`), and does the rule mean a client (`I`).
 pub enum Kind {
     Valid,
     Tree,
@@ -14,6 +17,7 @@ pub enum Kind {
     Document,
     Within,
     RuleLine,
+    Identity,
 }
 
 // What the first field of a line names.
@@ -43,6 +47,7 @@ fn kind_of(word: &[u8]) -> Named
         b'J' => Named::Of(Kind::Document),
         b'L' => Named::Of(Kind::Within),
         b'R' => Named::Of(Kind::RuleLine),
+        b'I' => Named::Of(Kind::Identity),
         _ => Named::Nothing,
     }
 }
@@ -131,6 +136,29 @@ fn rule_line(line: &[u8]) -> Judged
     verdict(Kind::RuleLine, is_digit(answer, field(line, 1)))
 }
 
+// A line `I`, answer, client id, name, password, address, protocol, rule line.
+fn identity_line(line: &[u8]) -> Judged
+    ensures { λ r. ⌜ r ≡ spec.asked (now (line .entry)) Kind.Identity ⌝ }
+{
+    let name = field(line, 3);
+    let password = field(line, 4);
+    let address = field(line, 5);
+    let protocol = field(line, 6);
+    let answer = ffi::acl_identity(
+        rest(line, 7),
+        field(line, 2),
+        is_given(name),
+        lent(name),
+        is_given(password),
+        lent(password),
+        is_given(address),
+        lent(address),
+        is_given(protocol),
+        number(protocol),
+    );
+    verdict(Kind::Identity, is_digit(answer, field(line, 1)))
+}
+
 // Does the line's answer agree with what this port answers?
 pub fn judge(line: &[u8]) -> Judged
     ensures { λ r. ⌜ r ≡ spec.judge (now (line .entry)) ⌝ }
@@ -144,6 +172,7 @@ pub fn judge(line: &[u8]) -> Judged
             Kind::Document => document_line(line),
             Kind::Within => within_line(line),
             Kind::RuleLine => rule_line(line),
+            Kind::Identity => identity_line(line),
         },
     }
 }

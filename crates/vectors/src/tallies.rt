@@ -8,9 +8,9 @@ ghost use Prim.Native.Nat.{_<_};
 ghost use Rattle.vectors.specs.Tallies as spec;
 
 // The number of kinds, and the letter of each, in the order of `place`.
-const KINDS: usize = 6;
+const KINDS: usize = 7;
 
-const LETTERS: [u8; KINDS] = [b'V', b'T', b'P', b'J', b'L', b'R'];
+const LETTERS: [u8; KINDS] = [b'V', b'T', b'P', b'J', b'L', b'R', b'I'];
 
 // Where a kind is counted.
 fn place(kind: Kind) -> usize
@@ -23,6 +23,7 @@ fn place(kind: Kind) -> usize
         Kind::Document => 3,
         Kind::Within => 4,
         Kind::RuleLine => 5,
+        Kind::Identity => 6,
     }
 }
 

@@ -45,7 +45,8 @@ impl Sample {
     }
 }
 
-/// The whole sample: the same bytes each time. Filters and matching come first, rules last.
+/// The whole sample: the same bytes each time. Filters and matching come first, rules and
+/// their clients last.
 pub fn sample() -> Vec<u8> {
     [matches().into_bytes(), json::sample::sample(), rules::sample::sample()].concat()
 }

@@ -1,15 +1,21 @@
 //! The sample's rule lines: `R`, document 01's number or 0 for a rule, and the line,
-//! which is all behind the second TAB and may hold any byte but LF.
+//! which is all behind the second TAB and may hold any byte but LF. Behind them clients:
+//! `I`, answer, client id, name, password, address, protocol, and such a line. The four
+//! before it are optional: `=` stands before a given value, `-` before what is lent all
+//! the same. The protocol is one byte.
 
 use std::collections::HashSet;
 
 use super::short::{ACCESS, CONTROL, RULES, TOPICS, USERS};
-use super::{generate, judge, LINE, TOPICS as MOST};
+use super::{generate, judge, Client, Identity, Lent, LINE, TOPICS as MOST};
 use crate::generate::{Random, LIMIT};
 
 /// Lines of each of document 01's numbers, at least.
 const EACH: usize = 40;
 const NUMBERS: [u8; 4] = [0, 1, 5, 6];
+/// Clients of each answer.
+const CLIENTS: usize = 30;
+const ANSWERS: usize = 4;
 /// A random line is at most so long.
 const SHORT: usize = 600;
 const SEED: u64 = 1;
@@ -58,7 +64,65 @@ pub fn sample() -> Vec<u8> {
         sample.fill(generate::line(&mut r, &elements));
         sample.fill(generate::damaged(&mut r, &elements));
     }
-    sample.lines
+    [sample.lines, clients()].concat()
+}
+
+/// Clients of random rules, but for those where document 01 or a stand-in answers. Half of
+/// those who differ, or more, would agree if all that they lend were given.
+fn clients() -> Vec<u8> {
+    let (mut lines, mut seen, mut counts) = (Vec::new(), HashSet::new(), [0; ANSWERS]);
+    let mut r = Random::new(SEED);
+    while counts.iter().any(|n| *n < CLIENTS) {
+        let elements = generate::elements(&mut r);
+        let line = generate::line(&mut r, &elements);
+        let client = generate::client(&mut r, &line);
+        let judged = judge(&line);
+        let identity = judged.identity(&client);
+        let fields = fields(&client);
+        if matches!(identity, Identity::RustOnly | Identity::NoAddress(_))
+            || line.len() > SHORT
+            || line.contains(&b'\n')
+            || fields.iter().any(|f| f.contains(&b'\t') || f.contains(&b'\n'))
+        {
+            continue;
+        }
+        let lent = judged.identity(&all_given(&client)) != identity;
+        if identity == Identity::Differs && !lent && counts[0] >= CLIENTS / 2 {
+            continue;
+        }
+        let asked = [fields.join(&b'\t'), line].join(&b'\t');
+        let answer = identity.number();
+        let count = &mut counts[usize::from(answer)];
+        if *count < CLIENTS && seen.insert(asked.clone()) {
+            *count += 1;
+            lines.extend([b"I\t", answer.to_string().as_bytes(), b"\t", &asked, b"\n"].concat());
+        }
+    }
+    lines
+}
+
+fn all_given(client: &Client) -> Client {
+    let mut client = client.clone();
+    client.name.given = true;
+    client.password.given = true;
+    client.address.given = true;
+    client.protocol.given = true;
+    client
+}
+
+fn fields(client: &Client) -> [Vec<u8>; 5] {
+    let protocol = Lent { given: client.protocol.given, value: [client.protocol.value] };
+    [
+        client.id.clone().into(),
+        field(&client.name),
+        field(&client.password),
+        field(&client.address),
+        field(&protocol),
+    ]
+}
+
+fn field(value: &Lent<impl AsRef<[u8]>>) -> Vec<u8> {
+    [if value.given { b"=" } else { b"-" }, value.value.as_ref()].concat()
 }
 
 /// Each value of each place, with the other places right.

@@ -55,6 +55,12 @@ enum-told-7 c = search needs
 rule-line-requires : tie.Need-rule-line-requires
 rule-line-requires c κs = search needs
 
+enum-told-8 : tie.Need-enum-told-8
+enum-told-8 c = search needs
+
+identity-line-requires : tie.Need-identity-line-requires
+identity-line-requires c κs = search needs
+
 returns : tie.Need-returns
 unfolding judgeNamed
 returns c = sym (judge-by _ _ (c .before .before .kind-of .ensures) (c .before .before .before .field .ensures) (c .enum-told .given .1))
@@ -83,6 +89,10 @@ returns-7 : tie.Need-returns-7
 unfolding judgeNamed
 returns-7 c = c .rule-line .ensures ∙ sym (judge-by _ _ (c .before .before .before .before .before .before .kind-of .ensures) (c .before .before .before .before .before .before .before .field .ensures) (c .before .before .before .before .kind .given .1 ∙ ap Of (c .before .enum-told7 .given .1)))
 
+returns-8 : tie.Need-returns-8
+unfolding judgeNamed
+returns-8 c = c .identity-line .ensures ∙ sym (judge-by _ _ (c .before .before .before .before .before .before .kind-of .ensures) (c .before .before .before .before .before .before .before .field .ensures) (c .before .before .before .before .kind .given .1 ∙ ap Of (c .before .enum-told8 .given .1)))
+
 pub judge-spec : {M : Type 1} → statement M
 judge-spec =
     tie.close
@@ -103,10 +113,13 @@ judge-spec =
     within-line-requires
     enum-told-7
     rule-line-requires
+    enum-told-8
+    identity-line-requires
     returns
     returns-2
     returns-3
     returns-4
     returns-5
     returns-6
-    returns-7)
+    returns-7
+    returns-8)
