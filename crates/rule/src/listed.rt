@@ -70,7 +70,7 @@ fn password_at(line: &[u8], at: Place) -> PasswordRead
 }
 
 // The bool at a place, if one stands there.
-fn truth_at(line: &[u8], at: Place) -> Truth
+pub fn truth_at(line: &[u8], at: Place) -> Truth
     ensures { λ r. ⌜ r ≡ members.truthFrom (now (line .entry)) at ⌝ }
 {
     match at {
@@ -80,7 +80,7 @@ fn truth_at(line: &[u8], at: Place) -> Truth
 }
 
 // The number at a place, if one stands there.
-fn number_at(line: &[u8], at: Place) -> Found
+pub fn number_at(line: &[u8], at: Place) -> Found
     ensures { λ r. ⌜ r ≡ members.numberFrom (now (line .entry)) at ⌝ }
 {
     match at {

@@ -37,7 +37,7 @@ ghost use Rattle.rule.specs.RuleText as text_spec;
 ghost use Rattle.rule.specs.Places as spec;
 
 // The element behind one, if there is one.
-fn next_part(line: &[u8], at: Place) -> Place
+pub fn next_part(line: &[u8], at: Place) -> Place
     ensures { λ r. ⌜ r ≡ spec.nextPart (now (line .entry)) at ⌝ }
 {
     match at {
