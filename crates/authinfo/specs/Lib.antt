@@ -1,0 +1,5 @@
+pub mod ClientRule
+pub mod Decision
+pub mod Answers
+pub mod Expiry
+pub mod Places

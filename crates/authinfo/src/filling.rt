@@ -1,0 +1,133 @@
+// A rule's topic, filled for the client and held against the asked one.
+use crate::TopicRead;
+use json::Copied;
+use json::Place;
+use json::access::plain_text;
+use json::strings::decode;
+use rule::Given;
+use rule::Refusal;
+use rule::TEXT;
+use text::Replaced;
+ghost use mathlib.Core.Path.{_≡_};
+ghost use mathlib.Core.Bool.{false};
+ghost use mathlib.Core.Option.{some};
+ghost use Rattle.json.specs.Strings.{stringAt};
+ghost use Rattle.rule.specs.Places.{given};
+ghost use Rattle.rule.specs.declared.Given.«the-variants».{Length};
+ghost use Rattle.authinfo.specs.ClientRule as rule;
+ghost use Rattle.authinfo.specs.Decision as decision;
+ghost use Rattle.authinfo.specs.Places as spec;
+
+const USERNAME: [u8; 11] = *b"${username}";
+
+const CLIENTID: [u8; 11] = *b"${clientid}";
+
+// A topic of 256 bytes has 23 places of 11 bytes for a user name of 64: 1,475 bytes at the most, and this bound is simpler to see.
+const BETWEEN: usize = 1489;
+
+// Does the filled text take the asked topic? Over 256 bytes it is refused, and where it is neither an eq nor a filter.
+fn taken(filled: &[u8], eq: bool, topic: &[u8]) -> TopicRead
+    ensures { λ r. ⌜ r ≡ spec.takenBy (now (topic .entry)) (rule.filledTopic eq (some (now (filled .entry)))) ⌝ }
+{
+    if TEXT < filled.len() {
+        return TopicRead::Refused(Refusal::FilledTooLong);
+    }
+    if eq {
+        return TopicRead::Takes(text::same(filled, topic));
+    }
+    if !topic::valid_filter(filled) {
+        return TopicRead::Refused(Refusal::NotARule);
+    }
+    TopicRead::Takes(topic::plain_match(filled, topic))
+}
+
+// The text, with the client id for `${clientid}` where the configured topic held it.
+fn with_id(before: &[u8], held: bool, eq: bool, id: &[u8], topic: &[u8]) -> TopicRead
+    ensures { λ r. ⌜ r ≡ spec.takenBy (now (topic .entry)) (rule.filledTopic eq (some (spec.idPut held (now (id .entry)) (now (before .entry))))) ⌝ }
+{
+    if !held {
+        return taken(before, eq, topic);
+    }
+    let mut filled = [0u8; TEXT];
+    match text::replace(before, &CLIENTID, id, &mut filled) {
+        Replaced::TooLong => TopicRead::Refused(Refusal::FilledTooLong),
+        Replaced::Length(n) => taken(&filled[..n], eq, topic),
+    }
+}
+
+// The part of the slice that is given.
+fn part(names: &[u8], n: usize) -> &[u8]
+    ensures { λ r. ⌜ some (now r) ≡ given (Length n) (now (names .entry)) ⌝ }
+{
+    if n < names.len() {
+        return &names[..n];
+    }
+    names
+}
+
+// The configured text, without its `eq `, with the user name for `${username}`, then the client id for `${clientid}`.
+fn filled(
+    configured: &[u8],
+    eq: bool,
+    id: &[u8],
+    name: Given,
+    names: &[u8],
+    topic: &[u8],
+) -> TopicRead
+    requires { ⌜ decision.nameOver (given name (now names)) ≡ false ⌝ }
+    requires { ⌜ spec.Short (now configured) ⌝ }
+    ensures { λ r. ⌜ r ≡ spec.takenBy (now (topic .entry)) (rule.filledTopic eq (rule.fillFor (now (id .entry)) (given name (now (names .entry))) (now (configured .entry)))) ⌝ }
+{
+    let held = text::contains(configured, &CLIENTID);
+    if !text::contains(configured, &USERNAME) {
+        return with_id(configured, held, eq, id, topic);
+    }
+    // "Without a user name such a topic is refused."
+    let Given::Length(n) = name else {
+        return TopicRead::Refused(Refusal::NotARule);
+    };
+    let mut between = [0u8; BETWEEN];
+    match text::replace(configured, &USERNAME, part(names, n), &mut between) {
+        Replaced::TooLong => TopicRead::Refused(Refusal::FilledTooLong),
+        Replaced::Length(m) => with_id(&between[..m], held, eq, id, topic),
+    }
+}
+
+// A configured topic: behind `eq ` a text, else a filter that isn't empty.
+fn configured(text: &[u8], id: &[u8], name: Given, names: &[u8], topic: &[u8]) -> TopicRead
+    requires { ⌜ decision.nameOver (given name (now names)) ≡ false ⌝ }
+    requires { ⌜ spec.Short (now text) ⌝ }
+    ensures { λ r. ⌜ r ≡ spec.topicTakes (now (topic .entry)) (now (id .entry)) (given name (now (names .entry))) (some (now (text .entry))) ⌝ }
+{
+    if text::begins(text, b"eq ") {
+        return filled(&text[3..], true, id, name, names, topic);
+    }
+    if text.len() == 0 {
+        return TopicRead::Refused(Refusal::NotARule);
+    }
+    filled(text, false, id, name, names, topic)
+}
+
+// The topic whose string stands at this place of the line. A plain one is read in place.
+pub fn topic_at(
+    line: &[u8],
+    at: usize,
+    id: &[u8],
+    name: Given,
+    names: &[u8],
+    topic: &[u8],
+) -> TopicRead
+    requires { ⌜ decision.nameOver (given name (now names)) ≡ false ⌝ }
+    requires { ⌜ spec.ShortAt (stringAt (now line) at) ⌝ }
+    ensures { λ r. ⌜ r ≡ spec.topicTakes (now (topic .entry)) (now (id .entry)) (given name (now (names .entry))) (spec.textOf (stringAt (now (line .entry)) at)) ⌝ }
+{
+    if let Place::At(end) = plain_text(line, at) {
+        return configured(&line[at + 1..end], id, name, names, topic);
+    }
+    let mut decoded = [0u8; TEXT];
+    match decode(line, at, &mut decoded) {
+        Copied::Length(n) => configured(&decoded[..n], id, name, names, topic),
+        Copied::TooLong => TopicRead::Refused(Refusal::NotARule),
+        Copied::NoText => TopicRead::Refused(Refusal::NotARule),
+    }
+}

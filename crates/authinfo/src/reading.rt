@@ -1,0 +1,242 @@
+// What the rule of a line says to a question.
+use crate::Action;
+use crate::ActionRead;
+use crate::Asked;
+use crate::LineRead;
+use crate::PermissionRead;
+use crate::QosRead;
+use crate::RulePlaces;
+use crate::TopicRead;
+use crate::Verdict;
+use crate::filling::topic_at;
+use crate::members::places_at;
+use json::Checked;
+use json::Found;
+use json::Kind;
+use json::Place;
+use json::Truth;
+use json::access::first_element;
+use json::access::kind_at;
+use json::access::next_item;
+use json::access::number_value;
+use json::strings::string_is;
+use json::values::check;
+use json::values::skip_blanks;
+use rule::Given;
+use rule::LINE;
+use rule::Refusal;
+use rule::TEXT;
+use rule::listed::truth_at;
+ghost use mathlib.Core.Path.{_≡_};
+ghost use mathlib.Core.Bool.{false};
+ghost use Rattle.rule.specs.Places.{given};
+ghost use Rattle.authinfo.specs.ClientRule as rule;
+ghost use Rattle.authinfo.specs.Decision as decision;
+ghost use Rattle.authinfo.specs.Places as spec;
+
+const QOS: u64 = 2;
+
+// The permission at a place: exactly `allow` or `deny`.
+fn permission_at(line: &[u8], at: Place) -> PermissionRead
+    ensures { λ r. ⌜ r ≡ spec.permissionHere (now (line .entry)) at ⌝ }
+{
+    let Place::At(p) = at else {
+        return PermissionRead::Bad;
+    };
+    if string_is(line, p, b"allow") {
+        return PermissionRead::Is(true);
+    }
+    if string_is(line, p, b"deny") {
+        return PermissionRead::Is(false);
+    }
+    PermissionRead::Bad
+}
+
+// The action at a place: exactly `all`, `publish` or `subscribe`.
+fn action_at(line: &[u8], at: Place) -> ActionRead
+    ensures { λ r. ⌜ r ≡ spec.actionHere (now (line .entry)) at ⌝ }
+{
+    let Place::At(p) = at else {
+        return ActionRead::Bad;
+    };
+    if string_is(line, p, b"all") {
+        return ActionRead::Is(Action::All);
+    }
+    if string_is(line, p, b"publish") {
+        return ActionRead::Is(Action::Publish);
+    }
+    if string_is(line, p, b"subscribe") {
+        return ActionRead::Is(Action::Subscribe);
+    }
+    ActionRead::Bad
+}
+
+// One more number of a rule's QoS: "each modulo 256 and then 0 to 2".
+fn with_level(n: u64, asked: u64, takes: bool) -> QosRead
+    ensures { λ r. ⌜ r ≡ spec.withLevel asked takes n ⌝ }
+{
+    let level = n % 256;
+    if QOS < level {
+        return QosRead::Bad;
+    }
+    if level == asked {
+        return QosRead::Takes(true);
+    }
+    QosRead::Takes(takes)
+}
+
+// The numbers of the array whose first element this is; other elements are dropped.
+fn qos_list(line: &[u8], first: Place, asked: u64) -> QosRead
+    ensures { λ r. ⌜ r ≡ spec.levelsFrom (now (line .entry)) asked first ⌝ }
+{
+    let mut takes = false;
+    let mut next = first;
+    let mut turns = line.len();
+    while turns > 0 {
+        let Place::At(p) = next else {
+            return QosRead::Takes(takes);
+        };
+        if let Found::Is(n) = number_value(line, p) {
+            let QosRead::Takes(now) = with_level(n, asked, takes) else {
+                return QosRead::Bad;
+            };
+            takes = now;
+        }
+        next = next_item(line, p);
+        turns -= 1;
+    }
+    QosRead::Takes(takes)
+}
+
+// The rule's QoS at a place: absent, a number or an array.
+fn qos_at(line: &[u8], at: Place, asked: u64) -> QosRead
+    ensures { λ r. ⌜ r ≡ spec.qosHere (now (line .entry)) asked at ⌝ }
+{
+    let Place::At(p) = at else {
+        return QosRead::Takes(true);
+    };
+    match kind_at(line, p) {
+        Kind::Array => qos_list(line, first_element(line, p), asked),
+        Kind::Number => match number_value(line, p) {
+            Found::Is(n) => with_level(n, asked, false),
+            Found::Absent => QosRead::Bad,
+        },
+        _ => QosRead::Bad,
+    }
+}
+
+// Do a rule's action and its retain, by its permission, take what is asked?
+fn takes_kind(allow: bool, action: Action, retain: Truth, asked: Asked) -> bool
+    ensures { λ r. ⌜ r ≡ spec.takesKind allow action retain asked ⌝ }
+{
+    match asked {
+        Asked::Subscribe(_) => match action {
+            Action::All => true,
+            Action::Subscribe => true,
+            Action::Publish => false,
+        },
+        Asked::Publish(_, retained) => {
+            if let Action::Subscribe = action {
+                return false;
+            }
+            match retain {
+                Truth::Unknown => true,
+                Truth::Holds(flag) => {
+                    if allow {
+                        return flag || !retained;
+                    }
+                    flag == retained
+                }
+            }
+        }
+    }
+}
+
+// The QoS that is asked for.
+pub fn asked_qos(asked: Asked) -> u64
+    ensures { λ r. ⌜ r ≡ spec.qosOfAsked asked ⌝ }
+{
+    match asked {
+        Asked::Subscribe(qos) => qos,
+        Asked::Publish(qos, _) => qos,
+    }
+}
+
+fn verdict(allow: bool, hits: bool) -> Verdict
+    ensures { λ r. ⌜ r ≡ spec.verdict allow hits ⌝ }
+{
+    if !hits {
+        return Verdict::Misses;
+    }
+    if allow {
+        return Verdict::Allows;
+    }
+    Verdict::Denies
+}
+
+// The rule of an object with members at these places; no string of the line is over 256 bytes.
+fn rule_says(
+    line: &[u8],
+    places: RulePlaces,
+    asked: Asked,
+    id: &[u8],
+    name: Given,
+    names: &[u8],
+    topic: &[u8],
+) -> LineRead
+    requires { ⌜ decision.nameOver (given name (now names)) ≡ false ⌝ }
+    requires { ⌜ spec.ShortTopic (now line) (places .topic) ⌝ }
+    ensures { λ r. ⌜ r ≡ spec.ruleSays (now (line .entry)) places asked (now (id .entry)) (given name (now (names .entry))) (now (topic .entry)) ⌝ }
+{
+    let at_permission = places.permission;
+    let PermissionRead::Is(allow) = permission_at(line, at_permission) else {
+        return LineRead::Refused(Refusal::NotARule);
+    };
+    let at_action = places.action;
+    let ActionRead::Is(action) = action_at(line, at_action) else {
+        return LineRead::Refused(Refusal::NotARule);
+    };
+    let at_qos = places.qos;
+    let QosRead::Takes(level) = qos_at(line, at_qos, asked_qos(asked)) else {
+        return LineRead::Refused(Refusal::NotARule);
+    };
+    let at_topic = places.topic;
+    let Place::At(p) = at_topic else {
+        return LineRead::Refused(Refusal::NotARule);
+    };
+    match topic_at(line, p, id, name, names, topic) {
+        TopicRead::Refused(cause) => LineRead::Refused(cause),
+        TopicRead::Takes(taken) => {
+            let at_retain = places.retain;
+            let kind = takes_kind(allow, action, truth_at(line, at_retain), asked);
+            LineRead::Says(verdict(allow, level && kind && taken))
+        }
+    }
+}
+
+// What the line's rule says, or the first refusal in document 01's order.
+pub fn line_says(
+    line: &[u8],
+    asked: Asked,
+    id: &[u8],
+    name: Given,
+    names: &[u8],
+    topic: &[u8],
+) -> LineRead
+    requires { ⌜ decision.nameOver (given name (now names)) ≡ false ⌝ }
+    ensures { λ r. ⌜ r ≡ spec.lineSays (spec.questionOf asked (now (topic .entry))) (rule.readLine (now (id .entry)) (given name (now (names .entry))) (now (line .entry))) ⌝ }
+{
+    if LINE < line.len() {
+        return LineRead::Refused(Refusal::TooLong);
+    }
+    match check(line) {
+        Checked::Invalid => LineRead::Refused(Refusal::NotJson),
+        Checked::Valid(longest) => {
+            if TEXT < longest {
+                return LineRead::Refused(Refusal::TooLong);
+            }
+            let places = places_at(line, skip_blanks(line, 0));
+            rule_says(line, places, asked, id, name, names, topic)
+        }
+    }
+}
