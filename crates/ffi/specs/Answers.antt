@@ -9,6 +9,11 @@ unfoldable pub openNumber : Option (ℕ × ℕ) → ℕ
 openNumber none = 0
 openNumber (some fault) = fault .0 + 256 * fault .1
 
+-- 0 for an event that is done, else the number; "The first cause in the order listed gives the number"
+unfoldable pub eventNumber : Option ℕ → ℕ
+eventNumber none = 0
+eventNumber (some number) = number
+
 -- below 16 what is answered, from 16 on the rule, or the code that is kept; a QoS is at most 2
 unfoldable pub decisionNumber : Decision → ℕ
 decisionNumber (kept code) = 16 * code + 1

@@ -1,6 +1,10 @@
 // The library for C and Rust: what a host calls, under names that begin with `acl_`. Nothing of the repository calls it. A lent
-// text, and a store, crosses as its address, never null, and its length; `acl_open` writes the store, the questions only read it. Answers on
-// a store are the numbers of specs/Answers.antt.
+// text, and a store, crosses as its address, never null, and its length; `acl_open` and the events write the store, the questions only
+// read it. Answers on a store are the numbers of specs/Answers.antt.
+use events::EventAnswer;
+use events::connecting::connected;
+use events::leaving::disconnected;
+use events::leaving::ended;
 use questions::ConnectAnswer;
 use questions::PublishAnswer;
 use questions::SubscribeAnswer;
@@ -26,6 +30,8 @@ ghost use Rattle.topic.specs.Topic as spec;
 ghost use Rattle.rule.specs.Refusals.{number};
 ghost use Rattle.rule.specs.Places.{given, placedProtocol};
 ghost use Rattle.store.specs.Opening as opening;
+ghost use Rattle.store.specs.View.{view};
+ghost use Rattle.events.specs.Event as event;
 ghost use Rattle.questions.specs.Question as question;
 ghost use Rattle.questions.specs.Decision.{ask};
 ghost use Rattle.questions.specs.Answers as said;
@@ -192,6 +198,48 @@ pub extern "C" fn acl_open(
     ensures { λ r. ⌜ now (store .exit) ≡ opening.afterOpen (record { bytes = bytes; filters = filters; eqs = eqs; notes = notes }) (now (text .entry)) (now (store .entry)) ⌝ }
 {
     opened_number(open(store, bytes, filters, eqs, notes, text))
+}
+
+fn event_number(answer: EventAnswer) -> u8
+    ensures { λ r. ⌜ r ≡ answers.eventNumber (event.says answer) ⌝ }
+{
+    match answer {
+        EventAnswer::Done => 0,
+        EventAnswer::Refused(cause) => refusal_number(cause),
+    }
+}
+
+// A client has connected: 0 done, else the number of document 01, and the store is unchanged. The name counts where its flag is true.
+#[no_mangle]
+pub extern "C" fn acl_connected(
+    store: &mut [u8],
+    session: u64,
+    id: &[u8],
+    has_name: bool,
+    name: &[u8],
+) -> u8
+    ensures { λ r. ⌜ r ≡ answers.eventNumber (event.cause (event.connected session (now (id .entry)) (rules.where-true «has_name» (now (name .entry)))) (view (now (store .entry)))) ⌝ }
+    ensures { λ r. ⌜ now (store .exit) ≡ event.after (event.connected session (now (id .entry)) (rules.where-true «has_name» (now (name .entry)))) (now (store .entry)) ⌝ }
+{
+    event_number(connected(store, session, id, given_text(has_name, name), name))
+}
+
+// A client has disconnected: answers as above.
+#[no_mangle]
+pub extern "C" fn acl_disconnected(store: &mut [u8], session: u64, id: &[u8]) -> u8
+    ensures { λ r. ⌜ r ≡ answers.eventNumber (event.cause (event.disconnected session (now (id .entry))) (view (now (store .entry)))) ⌝ }
+    ensures { λ r. ⌜ now (store .exit) ≡ event.after (event.disconnected session (now (id .entry))) (now (store .entry)) ⌝ }
+{
+    event_number(disconnected(store, session, id))
+}
+
+// A session has ended: answers as above.
+#[no_mangle]
+pub extern "C" fn acl_ended(store: &mut [u8], session: u64) -> u8
+    ensures { λ r. ⌜ r ≡ answers.eventNumber (event.cause (event.ended session) (view (now (store .entry)))) ⌝ }
+    ensures { λ r. ⌜ now (store .exit) ≡ event.after (event.ended session) (now (store .entry)) ⌝ }
+{
+    event_number(ended(store, session))
 }
 
 // What is answered, below 16, with its rule or code.
