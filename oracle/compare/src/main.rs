@@ -9,9 +9,13 @@
 //! a rule; I, whether it means a client. First all combinations of a rule's parts,
 //! then random ones for a quarter. And O, opening a store for a rule text; Q, the
 //! three questions on it. First all short lists, then random ones for a quarter.
+//! And E, histories: events on a store, and the three questions in between. First
+//! all short ones, then random ones for a quarter of SECONDS more.
 //! With --only the phases that name the kind. Exit status 1 if anything differs.
 
+mod histories;
 mod phases;
+mod store;
 mod tally;
 
 use std::process::ExitCode;
@@ -76,11 +80,13 @@ fn main() -> ExitCode {
     phase("R and I, all combinations of a few users and clients", &mut all, &phases::short_identities);
     phase("R and I, all damages of a few rules", &mut all, &phases::damaged_rules);
     phase("O and Q, all lists of up to two rules of a few parts", &mut all, &phases::short_questions);
+    phase("E, all histories of up to three events of a few", &mut all, &phases::short_histories);
     let part = || Instant::now() + Duration::from_secs(seconds) / 4;
     phase(&format!("V, T and P, random, seed {seed}"), &mut all, &|| phases::random(seed, part()));
     phase(&format!("J and L, random, seed {seed}"), &mut all, &|| phases::random_lines(seed, part()));
     phase(&format!("R and I, random, seed {seed}"), &mut all, &|| phases::random_rules(seed, part()));
     phase(&format!("O and Q, random, seed {seed}"), &mut all, &|| phases::random_questions(seed, part()));
+    phase(&format!("E, random, seed {seed}"), &mut all, &|| phases::random_histories(seed, part()));
     println!("\n{all}");
     if all.differences() == 0 {
         ExitCode::SUCCESS

@@ -6,16 +6,19 @@ use std::thread;
 use std::time::Instant;
 
 use oracle::cases::Kind;
-use oracle::decide::{Kind as QuestionKind, Machine};
+use oracle::decide::Machine;
+use oracle::events::{self, History};
 use oracle::generate::{self, Random, ALPHABET, LIMIT};
 use oracle::json::lines::RICH;
 use oracle::json::short::{families, Family};
 use oracle::json::{self, judge, Judged};
 use oracle::matching::{self, checked, filter, tree};
-use oracle::questions::{self, Asked, List, Reply, Step};
+use oracle::questions::{self, Asked, List, Reply};
 use oracle::rules::{self, Client, Judged as JudgedRule};
 use oracle::runtime;
 
+use crate::histories::compare_history;
+use crate::store::Store;
 use crate::tally::Tally;
 
 /// Hands the blocks 0, 1, 2, .. to the processors until one says that there are
@@ -227,51 +230,6 @@ pub fn random_rules(seed: u64, until: Instant) -> Tally {
     })
 }
 
-/// A store for rule texts of up to so many bytes.
-struct Store {
-    counts: port::Counts,
-    bytes: Vec<u8>,
-}
-
-impl Store {
-    fn new(room: u64) -> Store {
-        let counts = port::Counts { bytes: room, filters: 64, eqs: 32, notes: 64 };
-        Store { counts, bytes: vec![0xa5; counts.length()] }
-    }
-
-    /// What the bytes are to be after opening: document 01's layout, no used row.
-    fn laid_out(&self, text: &[u8]) -> Vec<u8> {
-        let port::Counts { bytes, filters, eqs, notes } = self.counts;
-        let header = [bytes, filters, eqs, notes, text.len() as u64, 0, 0, 0];
-        let mut out: Vec<u8> = header.iter().flat_map(|n| (*n as u16).to_le_bytes()).collect();
-        out.extend(text);
-        out.resize(self.counts.length(), 0);
-        out
-    }
-
-    fn open(&mut self, text: &[u8]) -> u32 {
-        port::open(&mut self.bytes, self.counts, text)
-    }
-
-    fn ask(&self, asked: &Asked, disconnect: bool) -> u32 {
-        let Client { id, name, password, address, protocol } = &asked.client;
-        let client = port::Client {
-            earlier: asked.earlier,
-            id: id.as_bytes(),
-            name: (name.given, name.value.as_bytes()),
-            password: (password.given, &password.value),
-            address: (address.given, address.value.as_bytes()),
-            protocol: (protocol.given, protocol.value),
-        };
-        let topic = asked.topic.as_bytes();
-        match asked.kind {
-            QuestionKind::Connect => port::connect(&self.bytes, client),
-            QuestionKind::Subscribe => port::subscribe(&self.bytes, client, topic, asked.qos),
-            QuestionKind::Publish => port::publish(&self.bytes, client, topic, disconnect),
-        }
-    }
-}
-
 /// O: 1 for a text over its room or over 256 lines, else the number of the first line that the
 /// judge of rules refuses; and every byte of the store.
 fn compare_open(store: &mut Store, text: &[u8], tally: &mut Tally) {
@@ -286,7 +244,8 @@ fn compare_open(store: &mut Store, text: &[u8], tally: &mut Tally) {
         Some((line, number)) => number + 256 * (line as u32 + 1),
         None => 0,
     };
-    let meant = if judged == 0 { store.laid_out(text) } else { store.bytes.clone() };
+    let none = events::Tables::default();
+    let meant = if judged == 0 { store.laid_out(text, &none) } else { store.bytes.clone() };
     let port = store.open(text);
     tally.count_open(text, judged, port, store.bytes == meant);
 }
@@ -365,12 +324,35 @@ pub fn random_questions(seed: u64, until: Instant) -> Tally {
             compare_open(&mut store, &questions::generate::damaged(&mut r, &list), tally);
             compare_open(&mut store, &text, tally);
             let machine = list.machine(&runtime);
-            for step in questions::generate::steps(&mut r, &list) {
-                match step {
-                    Step::Ask(asked) => compare_question(&list, &machine, &runtime, &store, &asked, tally),
-                }
+            for asked in questions::generate::questions(&mut r, &list) {
+                compare_question(&list, &machine, &runtime, &store, &asked, tally);
             }
         }
         Instant::now() < until
     })
+}
+
+/// E of all histories of up to three events of a few.
+pub fn short_histories() -> Tally {
+    const BLOCK: usize = 64;
+    in_blocks(|block, tally| {
+        let first = block * BLOCK;
+        let histories = (first..events::short::histories().min(first + BLOCK)).map(events::short::history);
+        compare_histories(histories, tally);
+        first < events::short::histories()
+    })
+}
+
+/// E of random histories, until the time is up.
+pub fn random_histories(seed: u64, until: Instant) -> Tally {
+    in_blocks(|block, tally| {
+        let mut r = Random::of_block(seed, block as u64);
+        compare_histories((0..20).map(|_| events::generate::history(&mut r)), tally);
+        Instant::now() < until
+    })
+}
+
+fn compare_histories(histories: impl Iterator<Item = History>, tally: &mut Tally) {
+    let runtime = runtime();
+    histories.for_each(|history| compare_history(&history, &runtime, tally));
 }

@@ -4,14 +4,17 @@ use std::fmt;
 
 use oracle::cases::{word, Case, Kind};
 use oracle::decide::Kind as QuestionKind;
+use oracle::events::{Event, History, Step};
 use oracle::json::{judge, Judged};
 use oracle::questions::{self, List, Reply};
 use oracle::rules::{self, Client, Identity, Verdict};
 
+use crate::histories::Judged as JudgedStep;
+
 /// The rows of the table: kind and the Rust's answer. Intended are answers no to
 /// a line that serde_json reads, or the plugin takes for a rule, and document 01
 /// doesn't; and an address that only document 01 can have.
-const ROWS: [(&str, &str); 43] = [
+const ROWS: [(&str, &str); 71] = [
     ("V", "yes"),
     ("V", "no"),
     ("T", "yes"),
@@ -55,9 +58,42 @@ const ROWS: [(&str, &str); 43] = [
     ("Q", "publish: kept"),
     ("Q", "intended: 1, too long"),
     ("Q", "intended: 2, range"),
+    ("E", "connected: rows added"),
+    ("E", "connected: none added"),
+    ("E", "disconnected: rows go"),
+    ("E", "disconnected: none go"),
+    ("E", "ended: notes go"),
+    ("E", "ended: none go"),
+    ("E", "intended: event, 1"),
+    ("E", "intended: event, 2"),
+    ("E", "intended: event, 7"),
+    ("E", "intended: event, 8"),
+    ("E", "intended: event, 9"),
+    ("E", "intended: event, 10"),
+    ("E", "connect: allow"),
+    ("E", "connect: superuser"),
+    ("E", "connect: refused"),
+    ("E", "connect: no rule"),
+    ("E", "connect: kept"),
+    ("E", "subscribe: allow"),
+    ("E", "subscribe: refused"),
+    ("E", "subscribe: no rule"),
+    ("E", "subscribe: kept"),
+    ("E", "publish: allow"),
+    ("E", "publish: refused"),
+    ("E", "publish: dropped"),
+    ("E", "publish: no rule"),
+    ("E", "publish: kept"),
+    ("E", "intended: 1, too long"),
+    ("E", "intended: 2, range"),
 ];
 
-/// So many differences of a row of Q are reduced, on each processor: it takes its time.
+/// Where the rows of questions begin, of Q and of E, and those of events.
+const QUESTIONS: usize = 27;
+const EVENTS: usize = 43;
+const IN_BETWEEN: usize = 55;
+
+/// So many differences of a row of Q or E are reduced, on each processor: it takes its time.
 const REDUCED: u64 = 20;
 
 /// A case that differs.
@@ -71,6 +107,8 @@ enum Asked {
     /// The judge's answer, then the port's.
     Open(Vec<u8>, u32, u32),
     Question(List, questions::Asked, Reply, u32),
+    /// With what is said of its last step.
+    History(History, String),
 }
 
 impl Asked {
@@ -84,6 +122,7 @@ impl Asked {
             Asked::Question(list, asked, ..) => {
                 (list.size() + asked.size(), asked.topic.as_bytes(), asked.client.id.as_bytes())
             }
+            Asked::History(history, said) => (history.size(), said.as_bytes(), &[]),
         }
     }
 }
@@ -190,25 +229,36 @@ impl Tally {
         port: u32,
         reduce: impl FnOnce() -> (List, questions::Asked, Reply, u32),
     ) {
-        let row = match (kind, rust) {
-            (_, Reply::Connects { superuser, .. }) => 27 + superuser as usize,
-            (QuestionKind::Connect, Reply::NotAuthorized { rule, .. }) => 29 + (rule == 0) as usize,
-            (QuestionKind::Connect, Reply::Kept(_)) => 31,
-            (_, Reply::Subscribes { .. }) => 32,
-            (_, Reply::UnspecifiedError { rule }) => 33 + (rule == 0) as usize,
-            (QuestionKind::Subscribe, Reply::Kept(_)) => 35,
-            (_, Reply::Publishes { .. }) => 36,
-            (_, Reply::NotAuthorized { rule: 0, .. }) => 39,
-            (_, Reply::NotAuthorized { disconnect, .. }) => 37 + (disconnect == Some(true)) as usize,
-            (_, Reply::Kept(_)) => 40,
-            (_, Reply::Refused(number)) => 40 + number as usize,
-        };
+        let row = QUESTIONS + answer_row(kind, rust);
         self.cases[row] += 1;
         if rust.number() != port && self.differences[row] < REDUCED {
             let (list, asked, rust, port) = reduce();
             self.differ(row, Asked::Question(list, asked, rust, port));
         } else if rust.number() != port {
             self.differences[row] += 1;
+        }
+    }
+
+    /// Counts one step of a history, with what is right for it.
+    pub fn count_step(
+        &mut self,
+        step: &Step,
+        judged: JudgedStep,
+        differs: bool,
+        reduce: impl FnOnce() -> Option<(History, String)>,
+    ) {
+        let row = match (step, judged) {
+            (Step::Ask(asked), JudgedStep::Answer(reply)) => IN_BETWEEN + answer_row(asked.kind, reply),
+            (Step::Event(event), JudgedStep::Done(changed)) => EVENTS + done_row(event) + !changed as usize,
+            (Step::Event(_), JudgedStep::Refused(number @ 1..=2)) => EVENTS + 5 + number as usize,
+            (Step::Event(_), JudgedStep::Refused(number)) => EVENTS + 1 + number as usize,
+            other => panic!("{other:?}"),
+        };
+        self.cases[row] += 1;
+        match differs.then(|| (self.differences[row] < REDUCED).then(reduce).flatten()) {
+            Some(Some((history, said))) => self.differ(row, Asked::History(history, said)),
+            Some(None) => self.differences[row] += 1,
+            None => (),
         }
     }
 
@@ -241,6 +291,32 @@ impl Tally {
 
     pub fn differences(&self) -> u64 {
         self.differences.iter().sum()
+    }
+}
+
+/// The row of an answer, among those of questions.
+fn answer_row(kind: QuestionKind, rust: Reply) -> usize {
+    match (kind, rust) {
+        (_, Reply::Connects { superuser, .. }) => superuser as usize,
+        (QuestionKind::Connect, Reply::NotAuthorized { rule, .. }) => 2 + (rule == 0) as usize,
+        (QuestionKind::Connect, Reply::Kept(_)) => 4,
+        (_, Reply::Subscribes { .. }) => 5,
+        (_, Reply::UnspecifiedError { rule }) => 6 + (rule == 0) as usize,
+        (QuestionKind::Subscribe, Reply::Kept(_)) => 8,
+        (_, Reply::Publishes { .. }) => 9,
+        (_, Reply::NotAuthorized { rule: 0, .. }) => 12,
+        (_, Reply::NotAuthorized { disconnect, .. }) => 10 + (disconnect == Some(true)) as usize,
+        (_, Reply::Kept(_)) => 13,
+        (_, Reply::Refused(number)) => 13 + number as usize,
+    }
+}
+
+/// The row of an event that has changed a table, among those of events; the next is of one that hasn't.
+fn done_row(event: &Event) -> usize {
+    match event {
+        Event::Connected { .. } => 0,
+        Event::Disconnected { .. } => 2,
+        Event::Ended { .. } => 4,
     }
 }
 
@@ -302,9 +378,18 @@ impl fmt::Display for Asked {
                 let number = rust.number();
                 return writeln!(f, "  judged: {rust:?}; the judge answers {number}, the port {port}");
             }
+            Asked::History(history, said) => return fmt_history(f, history, said),
         };
         writeln!(f, "  the judge answers {}, the port {}", word(rust), word(!rust))
     }
+}
+
+fn fmt_history(f: &mut fmt::Formatter<'_>, history: &History, said: &str) -> fmt::Result {
+    let History { list, room, steps } = history;
+    writeln!(f, "\ndifference, E: disconnect {}, {room:?}, rules", list.disconnect)?;
+    list.lines.iter().try_for_each(|line| writeln!(f, "  {}", line.escape_ascii()))?;
+    steps.iter().try_for_each(|step| writeln!(f, "  {step:?}"))?;
+    writeln!(f, "{said}")
 }
 
 /// 1234567 as 1,234,567.

@@ -4,6 +4,7 @@
 
 pub mod cases;
 pub mod decide;
+pub mod events;
 pub mod generate;
 pub mod json;
 pub mod matching;

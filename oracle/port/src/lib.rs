@@ -42,6 +42,24 @@ mod exported {
             text: *const u8,
             text_len: usize,
         ) -> u32;
+        pub fn acl_connected(
+            store: *mut u8,
+            store_len: usize,
+            session: u64,
+            id: *const u8,
+            id_len: usize,
+            has_name: bool,
+            name: *const u8,
+            name_len: usize,
+        ) -> u8;
+        pub fn acl_disconnected(
+            store: *mut u8,
+            store_len: usize,
+            session: u64,
+            id: *const u8,
+            id_len: usize,
+        ) -> u8;
+        pub fn acl_ended(store: *mut u8, store_len: usize, session: u64) -> u8;
         pub fn acl_connect(
             store: *const u8,
             store_len: usize,
@@ -201,6 +219,33 @@ pub fn open(store: &mut [u8], counts: Counts, text: &[u8]) -> u32 {
             text.len(),
         )
     }
+}
+
+/// An event: 0 done, else the number of document 01.
+pub fn connected(store: &mut [u8], session: u64, id: &[u8], name: Lent<&[u8]>) -> u8 {
+    // SAFETY: the function reads the slices and writes the first.
+    unsafe {
+        exported::acl_connected(
+            store.as_mut_ptr(),
+            store.len(),
+            session,
+            id.as_ptr(),
+            id.len(),
+            name.0,
+            name.1.as_ptr(),
+            name.1.len(),
+        )
+    }
+}
+
+pub fn disconnected(store: &mut [u8], session: u64, id: &[u8]) -> u8 {
+    // SAFETY: as above.
+    unsafe { exported::acl_disconnected(store.as_mut_ptr(), store.len(), session, id.as_ptr(), id.len()) }
+}
+
+pub fn ended(store: &mut [u8], session: u64) -> u8 {
+    // SAFETY: as above, the slice.
+    unsafe { exported::acl_ended(store.as_mut_ptr(), store.len(), session) }
 }
 
 /// Who asks, by what an earlier answer left.

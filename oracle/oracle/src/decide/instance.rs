@@ -19,6 +19,21 @@ use super::question::{Answer, Kind, Question};
 /// What a session keeps, among it the plugin's notes.
 pub type Attrs = Arc<RwLock<ExtraAttrs>>;
 
+/// What the tables of a rule hold, sorted.
+#[derive(Clone, Debug, PartialEq, Eq)]
+pub struct Rows {
+    /// Filter and owner.
+    pub owned: Vec<(String, String)>,
+    pub fixed: Vec<String>,
+    pub eqs: Vec<String>,
+}
+
+impl Rows {
+    pub fn json(&self) -> Value {
+        json!({ "owned": self.owned, "static": self.fixed, "eqs": self.eqs })
+    }
+}
+
 pub struct Instance {
     scx: ServerContext,
     _plugin: Box<dyn Plugin>,
@@ -80,8 +95,8 @@ impl Instance {
         q.answer(result)
     }
 
-    /// Of each of the first `n` rules: owned filters, static filters, eqs; sorted.
-    pub async fn rows(&self, n: usize) -> Vec<Value> {
+    /// Of each of the first `n` rules.
+    pub async fn rows(&self, n: usize) -> Vec<Rows> {
         let mut out = Vec::new();
         for rule in self.cfg.read().await.rules().iter().take(n) {
             let mut filters = Vec::new();
@@ -89,9 +104,9 @@ impl Instance {
             filters.sort();
             let mut eqs: Vec<String> = rule.topics.eqs.iter().map(|e| e.clone()).collect();
             eqs.sort();
-            let owned: Vec<_> = filters.iter().filter(|(_, owner)| owner.is_some()).collect();
-            let fixed: Vec<_> = filters.iter().filter(|(_, owner)| owner.is_none()).map(|(f, _)| f).collect();
-            out.push(json!({ "owned": owned, "static": fixed, "eqs": eqs }));
+            let fixed = filters.iter().filter(|(_, owner)| owner.is_none()).map(|(f, _)| f.clone()).collect();
+            let owned = filters.into_iter().filter_map(|(f, owner)| Some((f, owner?))).collect();
+            out.push(Rows { owned, fixed, eqs });
         }
         out
     }

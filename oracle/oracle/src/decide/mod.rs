@@ -13,8 +13,7 @@ use rmqtt_acl::exposed::Rule;
 use serde_json::{json, Value};
 
 use event::Event;
-use instance::Attrs;
-pub use instance::Instance;
+pub use instance::{Attrs, Instance, Rows};
 pub use question::{Answer, Kind, Question};
 
 /// Where the plugin keeps the notes of a session (its `CACHE_KEY`).
@@ -65,21 +64,21 @@ impl Machine {
 
     /// The session's notes are those of the full list, since a later rule's
     /// note can clear an earlier rule's row.
-    async fn connected(&mut self, session: u64, id: &Id) {
+    pub async fn connected(&mut self, session: u64, id: &Id) {
         self.full.connected(id, self.attrs.entry(session).or_default()).await;
         for list in self.plain.iter().chain(&self.open) {
             list.connected(id, &Attrs::default()).await;
         }
     }
 
-    async fn disconnected(&mut self, session: u64, id: &Id) {
+    pub async fn disconnected(&mut self, session: u64, id: &Id) {
         let attrs = self.attrs.entry(session).or_default();
         for list in self.plain.iter().chain(&self.open).chain([&self.full]) {
             list.disconnected(id, attrs).await;
         }
     }
 
-    fn ended(&mut self, session: u64) {
+    pub fn ended(&mut self, session: u64) {
         self.attrs.remove(&session);
     }
 
@@ -116,21 +115,37 @@ impl Machine {
         0
     }
 
+    /// Of each rule of the full list.
+    pub async fn rows(&self) -> Vec<Rows> {
+        self.full.rows(self.plain.len()).await
+    }
+
+    /// Of each session that has any, in the order in which they came, with repeats.
+    pub async fn notes(&self) -> Vec<(u64, Vec<String>)> {
+        let mut out = Vec::new();
+        for (session, attrs) in &self.attrs {
+            notes(attrs).await.into_iter().for_each(|texts| out.push((*session, texts)));
+        }
+        out
+    }
+
     async fn dump(&self) -> Value {
-        let rows = self.full.rows(self.plain.len()).await;
+        let rows = self.rows().await;
         if logged::started() {
             for (k, list) in self.open.iter().enumerate() {
                 assert_eq!(list.rows(k).await, rows[..k], "the beginnings hold the same rows");
             }
         }
-        let mut notes = serde_json::Map::new();
-        for (session, attrs) in &self.attrs {
-            if let Some(texts) = attrs.read().await.get::<Vec<String>>(NOTES) {
-                notes.insert(session.to_string(), json!(texts));
-            }
-        }
-        json!({ "rules": rows, "notes": notes })
+        let notes =
+            self.notes().await.into_iter().map(|(session, texts)| (session.to_string(), json!(texts)));
+        let rows: Vec<Value> = rows.iter().map(Rows::json).collect();
+        json!({ "rules": rows, "notes": notes.collect::<serde_json::Map<_, _>>() })
     }
+}
+
+/// The plugin's notes of a session.
+pub async fn notes(attrs: &Attrs) -> Option<Vec<String>> {
+    attrs.read().await.get::<Vec<String>>(NOTES).cloned()
 }
 
 fn word(kind: Kind, answer: Answer) -> &'static str {

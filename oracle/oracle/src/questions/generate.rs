@@ -2,19 +2,19 @@
 
 use serde_json::Value;
 
-use super::{Asked, List, Step};
+use super::{Asked, List};
 use crate::decide::Kind;
 use crate::generate::{filter, text, Random};
 use crate::json::generate::damaged as damaged_bytes;
 use crate::matching;
 use crate::rules::generate::{client, elements, line, odd_case};
-use crate::rules::{judge, Verdict};
+use crate::rules::{judge, Client, Verdict};
 
 const NAMES: &[&str] = &["a", "bo", "", "é", "%u", "g7"];
 const ADDRESSES: &[&str] = &["127.0.0.1", "1.2.3.4", "::1", "::0001"];
 const PROTOCOLS: &[&str] = &["3", "4", "5", "260", "0"];
 
-fn quoted(text: &str) -> String {
+pub(crate) fn quoted(text: &str) -> String {
     Value::from(text).to_string()
 }
 
@@ -53,7 +53,7 @@ fn users(r: &mut Random) -> String {
 }
 
 /// A valid filter, mostly a short one.
-fn valid(r: &mut Random) -> String {
+pub(crate) fn valid(r: &mut Random) -> String {
     if r.percent(25) {
         return r.pick(&["#", "+", "+/#", "a/#", "$SYS/#", "a/+", "/", "a"]).into();
     }
@@ -66,7 +66,7 @@ fn valid(r: &mut Random) -> String {
 }
 
 /// A static filter or eq, or a template of either.
-fn topic(r: &mut Random) -> String {
+pub(crate) fn topic(r: &mut Random) -> String {
     let mut text = valid(r);
     if r.percent(25) {
         let place = r.pick(&["%c", "%u", "%c/%u"]);
@@ -78,7 +78,8 @@ fn topic(r: &mut Random) -> String {
     quoted(&text)
 }
 
-fn own_rule(r: &mut Random) -> Vec<u8> {
+/// A rule of few values, with topics such as these.
+pub(crate) fn own_rule(r: &mut Random, topic: impl Fn(&mut Random) -> String) -> Vec<u8> {
     let mut out = vec![r.pick(&["\"allow\"", "\"deny\""]).into(), users(r)];
     if r.percent(85) {
         let word = r.pick(&["all", "connect", "publish", "subscribe", "pubsub", "pubsub"]);
@@ -103,7 +104,7 @@ fn rule(r: &mut Random) -> Vec<u8> {
             let elements = elements(r);
             line(r, &elements)
         } else {
-            own_rule(r)
+            own_rule(r, topic)
         };
         if judge(&line).verdict == Verdict::Rule {
             return line;
@@ -169,13 +170,15 @@ fn topic_for(r: &mut Random, line: &[u8], id: &str, name: &str) -> String {
     text(r, &own)
 }
 
-fn asked(r: &mut Random, list: &List) -> Asked {
+/// A question that a rule of the list might agree with; `cast` may change who asks.
+pub(crate) fn asked(r: &mut Random, list: &List, cast: impl Fn(&mut Random, &mut Client)) -> Asked {
     let kind = [Kind::Connect, Kind::Subscribe, Kind::Publish][r.below(3)];
     let line = match list.lines.len() {
         0 => b"[]".as_slice(),
         n => &list.lines[r.below(n)],
     };
     let mut client = client(r, line);
+    cast(r, &mut client);
     let mut topic = topic_for(r, line, &client.id, &client.name.value);
     if kind == Kind::Connect {
         client.protocol.given = true;
@@ -193,7 +196,7 @@ fn asked(r: &mut Random, list: &List) -> Asked {
     Asked { kind, earlier, client, topic, qos }
 }
 
-/// What is done with the opened store.
-pub fn steps(r: &mut Random, list: &List) -> Vec<Step> {
-    (0..24).map(|_| Step::Ask(asked(r, list))).collect()
+/// What is asked on the opened store.
+pub fn questions(r: &mut Random, list: &List) -> Vec<Asked> {
+    (0..24).map(|_| asked(r, list, |_, _| ())).collect()
 }

@@ -37,18 +37,15 @@ impl List {
         self.lines.iter().map(|line| line.len() + 1).sum()
     }
 
+    /// What serde_json reads. Panics if one of the lines isn't JSON.
+    pub fn values(&self) -> Vec<Value> {
+        self.lines.iter().map(|line| serde_json::from_slice(line).expect("a rule")).collect()
+    }
+
     /// The plugin over the list. Panics if one of the lines is no rule.
     pub fn machine(&self, runtime: &Runtime) -> Machine {
-        let rule = |line: &Vec<u8>| -> Value { serde_json::from_slice(line).expect("a rule") };
-        let rules: Vec<Value> = self.lines.iter().map(rule).collect();
-        runtime.block_on(Machine::new(&rules, self.disconnect))
+        runtime.block_on(Machine::new(&self.values(), self.disconnect))
     }
-}
-
-/// What is done with an opened store. An event is another step.
-#[derive(Clone, Debug)]
-pub enum Step {
-    Ask(Asked),
 }
 
 /// Who asks what. A connect looks at no topic and no QoS, and its protocol is given; only a
