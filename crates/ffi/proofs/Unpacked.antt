@@ -1,8 +1,8 @@
--- From its number an answer of a question is read back, so that no two have the same. Assumes nothing.
+-- From its number an answer of a question, or of an event, is read back, so that no two have the same. Assumes nothing.
 use Prim.Native.Nat.{ℕ, zero, suc, _+_, _*_, _/_, _%_, _≤_}
 use mathlib.Core.Path.{_≡_, refl, ap, _∙_}
 use mathlib.Core.Bool.{Bool, true, false, _||_, cond}
-use mathlib.Core.List.{List}
+use mathlib.Core.List.{List, [], _∷_}
 use mathlib.Core.Option.{Option, none, some}
 use native.Mathlib.Nat.{mul-add-div, mul-add-mod-self-left}
 use native.Mathlib.Omega.{arith}
@@ -10,6 +10,7 @@ use borrow.Author.Tests.{ltb-false}
 use lib.Dec.{ltb, eqb}
 use Rattle.text.proofs.Laws.{or-split}
 use Rattle.rule.specs.Limits.{textLimit}
+use Rattle.rule.specs.Refusals.{first}
 use Rattle.rule.specs.Rule.{Meaning}
 use Rattle.rule.specs.Identity.{superuser}
 use Rattle.store.specs.Store.{over, View}
@@ -17,7 +18,8 @@ use Rattle.store.specs.View.{view}
 use Rattle.questions.specs.Question.{Question, connect, subscribe, publish, codeLimit, qosLimit, clientOver, questionCause, Decision, kept, connects, subscribes, publishes, not-authorized, unspecified-error, Reply, refuses, decides}
 use Rattle.questions.specs.Decision.{keeps, refusal, allowance, byRule, ask}
 use Rattle.questions.proofs.AskLaws.{refuses-by, refuses-malformed, keeps-by, decides-by}
-use Rattle.ffi.specs.Answers.{decisionNumber, packed}
+use Rattle.events.specs.Event.{Event, connected as connects-event, disconnected, ended, argumentCauses, storeCauses, cause}
+use Rattle.ffi.specs.Answers.{decisionNumber, packed, eventNumber}
 use Rattle.ffi.proofs.AnswerLaws.{first-none}
 
 -- ---- reading back
@@ -116,3 +118,35 @@ answered q s = by (questionCause q) refl
 -- every answer of a question, on any store, is what its number says
 pub read-back : (q : Question) (s : List ℕ) → unpacked (packed (ask q s)) ≡ ask q s
 read-back q s = answered-back (answered q s)
+
+-- ---- events: 0 is none, as no cause has that number
+
+unfoldable pub unpackedEvent : ℕ → Option ℕ
+unpackedEvent zero = none
+unpackedEvent (suc n) = some (suc n)
+
+abbrev Back : Option ℕ → Type 0
+Back o = unpackedEvent (eventNumber o) ≡ o
+
+cause-back : (b : Bool) (n : ℕ) (causes : List (Bool × ℕ)) → Back (first causes) → Back (first ((b, suc n) ∷ causes))
+unfolding first eventNumber unpackedEvent
+cause-back true n causes h = refl
+cause-back false n causes h = h
+
+none-back : Back (first [])
+unfolding first eventNumber unpackedEvent
+none-back = refl
+
+malformed-back : Back (first ((true, 3) ∷ []))
+malformed-back = cause-back true 2 [] none-back
+
+-- every answer of an event, on any store, is what its number says
+pub event-read-back : (e : Event) (o : Option View) → unpackedEvent (eventNumber (cause e o)) ≡ cause e o
+unfolding cause argumentCauses storeCauses
+event-read-back (connects-event session id name) none = cause-back _ 0 _ (cause-back _ 1 _ malformed-back)
+event-read-back (disconnected session id) none = cause-back _ 0 _ (cause-back _ 1 _ malformed-back)
+event-read-back (ended session) none = cause-back _ 1 _ malformed-back
+event-read-back (connects-event session id name) (some v) =
+    cause-back _ 0 _ (cause-back _ 1 _ (cause-back _ 6 _ (cause-back _ 7 _ (cause-back _ 8 _ (cause-back _ 9 _ none-back)))))
+event-read-back (disconnected session id) (some v) = cause-back _ 0 _ (cause-back _ 1 _ none-back)
+event-read-back (ended session) (some v) = cause-back _ 1 _ none-back
