@@ -355,33 +355,40 @@ impl fmt::Display for Asked {
             Asked::Rule(line, port) => {
                 writeln!(f, "\ndifference, R: line b\"{}\"", line.escape_ascii())?;
                 let verdict = rules::judge(line).verdict;
-                let number = verdict.number();
-                return writeln!(f, "  judged: {verdict:?}; the judge answers {number}, the port {port}");
+                return fmt_judged(f, verdict, verdict.number() as u32, *port as u32);
             }
             Asked::Identity(line, client, port) => {
                 writeln!(f, "\ndifference, I: line b\"{}\"", line.escape_ascii())?;
                 writeln!(f, "  {client:?}")?;
                 let judged = rules::judge(line).identity(client);
-                let number = judged.number();
-                return writeln!(f, "  judged: {judged:?}; the judge answers {number}, the port {port}");
+                return fmt_judged(f, judged, judged.number() as u32, *port as u32);
             }
             Asked::Open(text, number, port) => {
                 writeln!(f, "\ndifference, O: text b\"{}\"", text.escape_ascii())?;
                 return writeln!(f, "  the judge answers {number}, the port {port}; or a byte of the store");
             }
-            Asked::Question(list, asked, rust, port) => {
-                writeln!(f, "\ndifference, Q: disconnect {}, rules", list.disconnect)?;
-                for line in &list.lines {
-                    writeln!(f, "  {}", line.escape_ascii())?;
-                }
-                writeln!(f, "  {asked:?}")?;
-                let number = rust.number();
-                return writeln!(f, "  judged: {rust:?}; the judge answers {number}, the port {port}");
-            }
+            Asked::Question(list, asked, rust, port) => return fmt_question(f, list, asked, *rust, *port),
             Asked::History(history, said) => return fmt_history(f, history, said),
         };
         writeln!(f, "  the judge answers {}, the port {}", word(rust), word(!rust))
     }
+}
+
+fn fmt_judged(f: &mut fmt::Formatter<'_>, judged: impl fmt::Debug, number: u32, port: u32) -> fmt::Result {
+    writeln!(f, "  judged: {judged:?}; the judge answers {number}, the port {port}")
+}
+
+fn fmt_question(
+    f: &mut fmt::Formatter<'_>,
+    list: &List,
+    asked: &questions::Asked,
+    rust: Reply,
+    port: u32,
+) -> fmt::Result {
+    writeln!(f, "\ndifference, Q: disconnect {}, rules", list.disconnect)?;
+    list.lines.iter().try_for_each(|line| writeln!(f, "  {}", line.escape_ascii()))?;
+    writeln!(f, "  {asked:?}")?;
+    fmt_judged(f, rust, rust.number(), port)
 }
 
 fn fmt_history(f: &mut fmt::Formatter<'_>, history: &History, said: &str) -> fmt::Result {

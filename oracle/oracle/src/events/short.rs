@@ -67,6 +67,6 @@ pub fn history(n: usize) -> History {
         steps.push(Step::Event(events[digit(place)].clone()));
         steps.extend(questions.iter().cloned());
     }
-    let list = List { lines, ends: true, disconnect: n % 2 == 0 };
+    let list = List { lines, ends: true, disconnect: n.is_multiple_of(3) };
     History { list, room: Room { bytes: 256, filters, eqs, notes }, steps }
 }
