@@ -99,8 +99,8 @@ fn play(
             let mut said =
                 format!("  judged: {judged:?}; the judge answers {}, the port {port}", judged.number());
             if !as_meant {
-                said += &format!("\n  the plugin holds {:?}", both.judge.now());
-                said += &format!("\n  the store holds {:?}, or another byte differs", both.store.tables());
+                said += &format!("\n  the plugin holds {}", both.judge.now());
+                said += &format!("\n  the store holds {}; or another byte differs", both.store.tables());
             }
             return Some((place, said));
         }

@@ -25,16 +25,8 @@ impl Play {
         self.judge.refusal(&event, Room { bytes: 256, filters, eqs, notes }, &self.runtime)
     }
 
-    /// Rule, filter and owner; rule and eq; session and note.
     fn rows(&self) -> String {
-        let now = self.judge.now();
-        let text = |bytes: &[u8]| String::from_utf8_lossy(bytes).into_owned();
-        let filters =
-            now.filters.iter().map(|(rule, t, owner)| format!("{rule} {} {}", text(t), text(owner)));
-        let eqs = now.eqs.iter().map(|(rule, t)| format!("{rule} {}", text(t)));
-        let notes = now.notes.iter().map(|(session, t)| format!("{session} {}", text(t)));
-        let lists = [filters.collect::<Vec<_>>(), eqs.collect(), notes.collect()];
-        lists.map(|list| list.join(", ")).join(" | ")
+        self.judge.now().to_string()
     }
 }
 

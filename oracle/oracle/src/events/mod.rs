@@ -4,6 +4,8 @@
 pub mod generate;
 pub mod short;
 
+use std::fmt;
+
 use rmqtt::types::{ClientId, Id, UserName};
 use serde_json::Value;
 
@@ -91,6 +93,21 @@ impl Tables {
             add(&mut out.notes, texts.iter().map(|text| (*session, bytes(text))));
         }
         out.sorted()
+    }
+}
+
+/// Rule, filter and owner; rule and eq; session and note.
+impl fmt::Display for Tables {
+    fn fmt(&self, f: &mut fmt::Formatter<'_>) -> fmt::Result {
+        let filter = |(rule, text, owner): &(usize, Vec<u8>, Vec<u8>)| {
+            format!("{rule} {} {}", text.escape_ascii(), owner.escape_ascii())
+        };
+        let filters: Vec<String> = self.filters.iter().map(filter).collect();
+        let eqs: Vec<String> =
+            self.eqs.iter().map(|(n, text)| format!("{n} {}", text.escape_ascii())).collect();
+        let notes: Vec<String> =
+            self.notes.iter().map(|(n, text)| format!("{n} {}", text.escape_ascii())).collect();
+        write!(f, "{} | {} | {}", filters.join(", "), eqs.join(", "), notes.join(", "))
     }
 }
 
