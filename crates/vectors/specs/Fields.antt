@@ -1,5 +1,5 @@
 -- A recorded line: its fields have a TAB between them (oracle/README.md).
-use Prim.Native.Nat.{ℕ, zero, suc}
+use Prim.Native.Nat.{ℕ, zero, suc, _-_}
 use mathlib.Core.Bool.{Bool, false, cond}
 use mathlib.Core.List.{List, [], _∷_}
 use lib.Dec.{eqb}
@@ -35,3 +35,7 @@ lent text = drop 1 text
 -- the value as a number: its first byte, 0 where there is none
 unfoldable pub number : List ℕ → ℕ
 number text = getD text 1 0
+
+-- the digit at a place as a number; 0 where there is none
+unfoldable pub digit : ℕ → List ℕ → ℕ
+digit at text = getD text at 0 - 48

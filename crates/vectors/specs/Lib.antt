@@ -1,3 +1,4 @@
 pub mod Fields
+pub mod Asking
 pub mod Judging
 pub mod Tallies

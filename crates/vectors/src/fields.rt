@@ -67,3 +67,17 @@ pub fn number(text: &[u8]) -> u8
     }
     text[1]
 }
+
+// The digit at a place of the text as a number; 0 where there is none.
+pub fn digit(text: &[u8], at: usize) -> u8
+    ensures { λ r. ⌜ r ≡ spec.digit at (now (text .entry)) ⌝ }
+{
+    if text.len() <= at {
+        return 0;
+    }
+    let b = text[at];
+    if b < b'0' {
+        return 0;
+    }
+    b - b'0'
+}

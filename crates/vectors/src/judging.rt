@@ -1,15 +1,23 @@
 // What a recorded line asks, and whether this port gives its answer. A further kind of line is a variant of `Kind`, a letter in
 // `kind_of`, a function of its own and an arm of `judge`, a clause each in specs/Judging.antt, and a place in `tallies`.
+use crate::asking::STORE;
+use crate::asking::connect_answer;
+use crate::asking::is_word;
+use crate::asking::open_rules;
+use crate::asking::publish_answer;
+use crate::asking::subscribe_answer;
 use crate::fields::field;
 use crate::fields::is_given;
 use crate::fields::lent;
 use crate::fields::number;
 use crate::fields::rest;
 ghost use mathlib.Core.Path.{_≡_};
+ghost use Rattle.vectors.specs.Fields.{field};
 ghost use Rattle.vectors.specs.Judging as spec;
 
 // The kinds of questions: is it a valid filter (`V`), Tree match (`T`), Plain match (`P`), is it a JSON document (`J`), one whose
-// strings are within the limit (`L`), is it a rule, or why not (`R`), and does the rule mean a client (`I`).
+// strings are within the limit (`L`), is it a rule, or why not (`R`), does the rule mean a client (`I`), and connect, subscribe or
+// publish on a store (`Q`).
 pub enum Kind {
     Valid,
     Tree,
@@ -18,6 +26,7 @@ pub enum Kind {
     Within,
     RuleLine,
     Identity,
+    OnStore,
 }
 
 // What the first field of a line names.
@@ -48,6 +57,7 @@ fn kind_of(word: &[u8]) -> Named
         b'L' => Named::Of(Kind::Within),
         b'R' => Named::Of(Kind::RuleLine),
         b'I' => Named::Of(Kind::Identity),
+        b'Q' => Named::Of(Kind::OnStore),
         _ => Named::Nothing,
     }
 }
@@ -119,13 +129,13 @@ fn within_line(line: &[u8]) -> Judged
 }
 
 // Is the recorded answer this digit?
-fn is_digit(answer: u8, recorded: &[u8]) -> bool
+fn is_digit(answer: u32, recorded: &[u8]) -> bool
     ensures { λ r. ⌜ r ≡ spec.isDigit answer (now (recorded .entry)) ⌝ }
 {
     if recorded.len() != 1 {
         return false;
     }
-    recorded[0] as u32 == answer as u32 + 48
+    recorded[0] as u64 == answer as u64 + 48
 }
 
 // A line `R`, number of document 01 or 0, rule line.
@@ -133,7 +143,7 @@ fn rule_line(line: &[u8]) -> Judged
     ensures { λ r. ⌜ r ≡ spec.asked (now (line .entry)) Kind.RuleLine ⌝ }
 {
     let answer = ffi::acl_rule_refusal(rest(line, 2));
-    verdict(Kind::RuleLine, is_digit(answer, field(line, 1)))
+    verdict(Kind::RuleLine, is_digit(answer as u32, field(line, 1)))
 }
 
 // A line `I`, answer, client id, name, password, address, protocol, rule line.
@@ -156,7 +166,39 @@ fn identity_line(line: &[u8]) -> Judged
         is_given(protocol),
         number(protocol),
     );
-    verdict(Kind::Identity, is_digit(answer, field(line, 1)))
+    verdict(Kind::Identity, is_digit(answer as u32, field(line, 1)))
+}
+
+// The number that a question is answered by against the recorded word and digit.
+fn answered(line: &[u8], answer: u32) -> Judged
+    ensures { λ r. ⌜ r ≡ spec.verdict Kind.OnStore (spec.isAnswer answer (field 2 (now (line .entry))) (field 3 (now (line .entry)))) ⌝ }
+{
+    if !is_digit(answer / 16, field(line, 3)) {
+        return Judged::Differs(Kind::OnStore);
+    }
+    verdict(Kind::OnStore, is_word((answer % 16) as u8, field(line, 2)))
+}
+
+// A line `Q`, question, word and digit of the answer, earlier code, client id, name, password, address, protocol, topic, QoS or disconnect
+// flag, rules.
+fn question_line(line: &[u8]) -> Judged
+    ensures { λ r. ⌜ r ≡ spec.asked (now (line .entry)) Kind.OnStore ⌝ }
+{
+    let mut store = [0u8; STORE];
+    if !open_rules(rest(line, 12), &mut store) {
+        return Judged::Malformed;
+    }
+    let question = field(line, 1);
+    if text::same(question, b"connect") {
+        return answered(line, connect_answer(line, &store));
+    }
+    if text::same(question, b"subscribe") {
+        return answered(line, subscribe_answer(line, &store));
+    }
+    if text::same(question, b"publish") {
+        return answered(line, publish_answer(line, &store));
+    }
+    Judged::Malformed
 }
 
 // Does the line's answer agree with what this port answers?
@@ -173,6 +215,7 @@ pub fn judge(line: &[u8]) -> Judged
             Kind::Within => within_line(line),
             Kind::RuleLine => rule_line(line),
             Kind::Identity => identity_line(line),
+            Kind::OnStore => question_line(line),
         },
     }
 }

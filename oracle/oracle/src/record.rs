@@ -6,6 +6,7 @@ use crate::cases::{examples, word, Case, Kind, KINDS};
 use crate::generate::{self, is_readable, pad, Random, LIMIT};
 use crate::json;
 use crate::matching;
+use crate::questions;
 use crate::rules;
 
 /// Lines of each kind and answer.
@@ -45,10 +46,11 @@ impl Sample {
     }
 }
 
-/// The whole sample: the same bytes each time. Filters and matching come first, rules and
-/// their clients last.
+/// The whole sample: the same bytes each time. Filters and matching come first, then rules
+/// and their clients, questions last.
 pub fn sample() -> Vec<u8> {
-    [matches().into_bytes(), json::sample::sample(), rules::sample::sample()].concat()
+    let matches = matches().into_bytes();
+    [matches, json::sample::sample(), rules::sample::sample(), questions::sample::sample()].concat()
 }
 
 fn matches() -> String {

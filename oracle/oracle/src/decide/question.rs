@@ -11,7 +11,7 @@ use rmqtt::types::{
     SubscribeAclResult, SubscriptionOptions,
 };
 
-#[derive(Clone, Copy, Debug, PartialEq, Eq)]
+#[derive(Clone, Copy, Debug, PartialEq, Eq, Hash)]
 pub enum Kind {
     Connect,
     Subscribe,

@@ -2,6 +2,7 @@
 //! `decide::Machine` asks it.
 
 pub mod generate;
+pub mod sample;
 pub mod short;
 
 use rmqtt::types::{ClientId, Id, Password, QoS, RemoteAddr, UserName};
@@ -60,7 +61,7 @@ pub struct Asked {
 }
 
 /// A whole answer.
-#[derive(Clone, Copy, Debug, PartialEq, Eq)]
+#[derive(Clone, Copy, Debug, PartialEq, Eq, Hash)]
 pub enum Reply {
     /// By document 01's number, 1 or 2. Nothing like it is in the Rust.
     Refused(u32),

@@ -159,6 +159,6 @@ impl Judged {
 }
 
 /// Is it what an address prints as?
-fn is_printed(text: &str) -> bool {
+pub(crate) fn is_printed(text: &str) -> bool {
     text.parse::<IpAddr>().is_ok_and(|ip| ip.to_string() == text)
 }

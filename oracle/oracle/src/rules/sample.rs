@@ -121,7 +121,7 @@ fn fields(client: &Client) -> [Vec<u8>; 5] {
     ]
 }
 
-fn field(value: &Lent<impl AsRef<[u8]>>) -> Vec<u8> {
+pub(crate) fn field(value: &Lent<impl AsRef<[u8]>>) -> Vec<u8> {
     [if value.given { b"=" } else { b"-" }, value.value.as_ref()].concat()
 }
 

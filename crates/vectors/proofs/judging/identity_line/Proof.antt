@@ -1,5 +1,6 @@
 -- The answer to the line's question, against the recorded one: each call has its part of the definition. Assumes nothing.
-use Rattle.vectors.specs.Judging.{textIn, identityAsked, asked}
+use Rattle.vectors.specs.Asking.{textIn}
+use Rattle.vectors.specs.Judging.{identityAsked, asked}
 use borrow.Author.Needs.{needs}
 use Rattle.vectors.proofs.judging.identity_line.Statement.{statement}
 use Rattle.vectors.proofs.judging.identity_line.Tie as tie
@@ -49,6 +50,9 @@ number-requires c κs = search needs
 acl-identity-requires : tie.Need-acl-identity-requires
 acl-identity-requires c κs = search needs
 
+cast-is-digit : tie.Need-cast-is-digit
+cast-is-digit c = search needs
+
 field-requires-6 : tie.Need-field-requires-6
 field-requires-6 c κs = search needs
 
@@ -91,6 +95,7 @@ identity-line-spec =
     is-given-requires-4
     number-requires
     acl-identity-requires
+    cast-is-digit
     field-requires-6
     is-digit-requires
     verdict-requires

@@ -61,6 +61,12 @@ enum-told-8 c = search needs
 identity-line-requires : tie.Need-identity-line-requires
 identity-line-requires c κs = search needs
 
+enum-told-9 : tie.Need-enum-told-9
+enum-told-9 c = search needs
+
+question-line-requires : tie.Need-question-line-requires
+question-line-requires c κs = search needs
+
 returns : tie.Need-returns
 unfolding judgeNamed
 returns c = sym (judge-by _ _ (c .before .before .kind-of .ensures) (c .before .before .before .field .ensures) (c .enum-told .given .1))
@@ -93,6 +99,10 @@ returns-8 : tie.Need-returns-8
 unfolding judgeNamed
 returns-8 c = c .identity-line .ensures ∙ sym (judge-by _ _ (c .before .before .before .before .before .before .kind-of .ensures) (c .before .before .before .before .before .before .before .field .ensures) (c .before .before .before .before .kind .given .1 ∙ ap Of (c .before .enum-told8 .given .1)))
 
+returns-9 : tie.Need-returns-9
+unfolding judgeNamed
+returns-9 c = c .question-line .ensures ∙ sym (judge-by _ _ (c .before .before .before .before .before .before .kind-of .ensures) (c .before .before .before .before .before .before .before .field .ensures) (c .before .before .before .before .kind .given .1 ∙ ap Of (c .before .enum-told9 .given .1)))
+
 pub judge-spec : {M : Type 1} → statement M
 judge-spec =
     tie.close
@@ -115,6 +125,8 @@ judge-spec =
     rule-line-requires
     enum-told-8
     identity-line-requires
+    enum-told-9
+    question-line-requires
     returns
     returns-2
     returns-3
@@ -122,4 +134,5 @@ judge-spec =
     returns-5
     returns-6
     returns-7
-    returns-8)
+    returns-8
+    returns-9)

@@ -13,6 +13,9 @@ rest-requires c κs = search needs
 acl-rule-refusal-requires : tie.Need-acl-rule-refusal-requires
 acl-rule-refusal-requires c κs = search needs
 
+cast-is-digit : tie.Need-cast-is-digit
+cast-is-digit c = search needs
+
 field-requires : tie.Need-field-requires
 field-requires c κs = search needs
 
@@ -33,4 +36,4 @@ returns c =
 pub rule-line-spec : {M : Type 1} → statement M
 rule-line-spec =
     tie.close
-    (tie.spec rest-requires acl-rule-refusal-requires field-requires is-digit-requires verdict-requires returns)
+    (tie.spec rest-requires acl-rule-refusal-requires cast-is-digit field-requires is-digit-requires verdict-requires returns)

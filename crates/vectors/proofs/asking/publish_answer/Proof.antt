@@ -1,0 +1,102 @@
+-- Each call has its part of the question. Assumes nothing.
+use Rattle.vectors.specs.Asking.{textIn, clientOf, protocolOf, publishOf}
+use borrow.Author.Needs.{needs}
+use Rattle.vectors.proofs.asking.publish_answer.Statement.{statement}
+use Rattle.vectors.proofs.asking.publish_answer.Tie as tie
+
+field-requires : tie.Need-field-requires
+field-requires c κs = search needs
+
+field-requires-2 : tie.Need-field-requires-2
+field-requires-2 c κs = search needs
+
+field-requires-3 : tie.Need-field-requires-3
+field-requires-3 c κs = search needs
+
+field-requires-4 : tie.Need-field-requires-4
+field-requires-4 c κs = search needs
+
+field-requires-5 : tie.Need-field-requires-5
+field-requires-5 c κs = search needs
+
+digit-requires : tie.Need-digit-requires
+digit-requires c κs = search needs
+
+cast-acl-publish : tie.Need-cast-acl-publish
+cast-acl-publish c = search needs
+
+field-requires-6 : tie.Need-field-requires-6
+field-requires-6 c κs = search needs
+
+is-given-requires : tie.Need-is-given-requires
+is-given-requires c κs = search needs
+
+lent-requires : tie.Need-lent-requires
+lent-requires c κs = search needs
+
+is-given-requires-2 : tie.Need-is-given-requires-2
+is-given-requires-2 c κs = search needs
+
+lent-requires-2 : tie.Need-lent-requires-2
+lent-requires-2 c κs = search needs
+
+is-given-requires-3 : tie.Need-is-given-requires-3
+is-given-requires-3 c κs = search needs
+
+lent-requires-3 : tie.Need-lent-requires-3
+lent-requires-3 c κs = search needs
+
+is-given-requires-4 : tie.Need-is-given-requires-4
+is-given-requires-4 c κs = search needs
+
+digit-requires-2 : tie.Need-digit-requires-2
+digit-requires-2 c κs = search needs
+
+field-requires-7 : tie.Need-field-requires-7
+field-requires-7 c κs = search needs
+
+field-requires-8 : tie.Need-field-requires-8
+field-requires-8 c κs = search needs
+
+digit-requires-3 : tie.Need-digit-requires-3
+digit-requires-3 c κs = search needs
+
+acl-publish-requires : tie.Need-acl-publish-requires
+acl-publish-requires c κs = search needs
+
+returns : tie.Need-returns
+unfolding textIn clientOf protocolOf publishOf
+returns c =
+    let r = c .before .before .before .before .before in
+    let s = r .before .before .before .before .before in
+    let p = s .before .before .before .before .before in
+    rw (c .acl-publish .ensures, c .before .digit3 .ensures, c .before .before .field8 .ensures, c .before .before .before .field7 .ensures, c .before .before .before .before .digit2 .ensures)
+    (rw (r .is-given4 .ensures, r .before .lent3 .ensures, r .before .before .is-given3 .ensures, r .before .before .before .lent2 .ensures, r .before .before .before .before .is-given2 .ensures)
+    (rw (s .lent .ensures, s .before .is-given .ensures, s .before .before .field6 .ensures, s .before .before .before .digit .ensures, s .before .before .before .before .field5 .ensures)
+    (rw (p .field4 .ensures, p .before .field3 .ensures, p .before .before .field2 .ensures, p .before .before .before .field .ensures))))
+
+pub publish-answer-spec : {M : Type 1} → statement M
+publish-answer-spec =
+    tie.close
+    (tie.spec
+    field-requires
+    field-requires-2
+    field-requires-3
+    field-requires-4
+    field-requires-5
+    digit-requires
+    cast-acl-publish
+    field-requires-6
+    is-given-requires
+    lent-requires
+    is-given-requires-2
+    lent-requires-2
+    is-given-requires-3
+    lent-requires-3
+    is-given-requires-4
+    digit-requires-2
+    field-requires-7
+    field-requires-8
+    digit-requires-3
+    acl-publish-requires
+    returns)
