@@ -1,5 +1,6 @@
 /* Times the check behind number 3 and the questions on a store, beside a plain scan of its bytes and the reading of its rules, in one
-   run. store [WHAT REPEATS]: one row alone, for a profiler. Linked with target/staticlib/libffi.a. */
+   run. store WHAT REPEATS: one row alone, for a profiler. store EVENT ROWS REPEATS: an event on a store whose F and N are ROWS, all
+   used, each time on a copy of it. Linked with target/staticlib/libffi.a. */
 #include <stdbool.h>
 #include <stdint.h>
 #include <stdio.h>
@@ -13,6 +14,9 @@ uint32_t acl_connect(Text, size_t, uint64_t, Text, size_t, bool, Text, size_t, b
 uint32_t acl_publish(Text, size_t, uint64_t, Text, size_t, bool, Text, size_t, bool, Text, size_t, bool, Text, size_t, bool, uint8_t,
                      Text, size_t, bool);
 uint8_t acl_rule_refusal(Text, size_t);
+uint8_t acl_connected(uint8_t *, size_t, uint64_t, Text, size_t, bool, Text, size_t);
+uint8_t acl_disconnected(uint8_t *, size_t, uint64_t, Text, size_t);
+uint8_t acl_ended(uint8_t *, size_t, uint64_t);
 
 static volatile uint32_t sink;
 static uint8_t *store;
@@ -91,7 +95,64 @@ static void row(const char *name, unsigned R, unsigned F, unsigned E, unsigned N
     printf("\n");
 }
 
+/* Each client has two filter rows and two notes. The eq rows are those of 32 names. Of the last `free` clients there is nothing. */
+static void make_full(unsigned rows, unsigned free_clients) {
+    const char *text = "[\"allow\",\"all\",\"publish\",[\"bench/%c/set\",\"bench/%c/log\",{\"eq\":\"room/%u\"}]]\n[\"deny\",\"all\",\"pubsub\"]\n";
+    const char *ends[] = {"set", "log"};
+    unsigned used = rows - 2 * free_clients;
+    length = 16 + 2048 + 326ul * rows + 260ul * 32 + 260ul * rows;
+    store = calloc(length, 1);
+    if (acl_open(store, length, 2048, rows, 32, rows, (Text)text, strlen(text)) != 0) exit(1);
+    uint8_t *row = store + 16 + 2048;
+    for (unsigned i = 0; i < used; i++, row += 326) {
+        number(row + 2, sprintf((char *)row + 6, "bench/g%u/%s", i / 2, ends[i % 2]));
+        number(row + 4, sprintf((char *)row + 262, "g%u", i / 2));
+    }
+    row = store + 16 + 2048 + 326ul * rows;
+    for (unsigned i = 0; i < 32; i++, row += 260) number(row + 2, sprintf((char *)row + 4, "room/n%u", i));
+    for (unsigned i = 0; i < used; i++, row += 260) {
+        number(row, i / 2 % 256);
+        number(row + 2, sprintf((char *)row + 4, "bench/g%u/%s", i / 2, ends[i % 2]));
+    }
+    number(store + 10, used);
+    number(store + 12, 32);
+    number(store + 14, used);
+}
+
+/* An event of the client with this number, and what it has to answer. */
+static void event(const char *what, unsigned rows) {
+    unsigned last = rows / 2 - 1;
+    char id[8], name[8];
+    unsigned n = !strcmp(what, "full") ? last + 1 : !strcmp(what, "first") ? 0 : last;
+    sprintf(id, "g%u", n);
+    sprintf(name, "n%u", n % 32);
+    if (!strcmp(what, "present") || !strcmp(what, "new"))
+        if (acl_connected(store, length, n % 256, (Text)id, strlen(id), true, (Text)name, strlen(name)) != 0) exit(1);
+    if (!strcmp(what, "full"))
+        if (acl_connected(store, length, n % 256, (Text)id, strlen(id), true, (Text)name, strlen(name)) != 8) exit(1);
+    if (!strcmp(what, "first") || !strcmp(what, "last"))
+        if (acl_disconnected(store, length, n % 256, (Text)id, strlen(id)) != 0 || store[10] + 256 * store[11] != rows - 2) exit(1);
+    if (!strcmp(what, "ended"))
+        if (acl_ended(store, length, n % 256) != 0 || store[14] + 256 * store[15] == rows) exit(1);
+    if (!strcmp(what, "check"))
+        if (asks("n0", 2) != 16 * 2 + 1) exit(1);
+}
+
+static void events(const char *what, unsigned rows, long repeats) {
+    make_full(rows, !strcmp(what, "new"));
+    uint8_t *kept = malloc(length);
+    memcpy(kept, store, length);
+    for (long i = 0; i < repeats; i++) {
+        memcpy(store, kept, length);
+        event(what, rows);
+    }
+}
+
 int main(int count, char **words) {
+    if (count == 4) {
+        events(words[1], atoi(words[2]), atol(words[3]));
+        return 0;
+    }
     if (count == 3) {
         make(2048, 64, 32, 64, 10, 50);
         for (long i = atol(words[2]); i > 0; i--) sink = once(words[1]);

@@ -13,7 +13,8 @@ use serde_json::Value;
 
 use crate::inputs::{Input, List};
 
-pub const KINDS: [&str; 9] = ["V", "T", "P", "P-parsed", "J", "R", "R-parsed", "Q-2", "Q-10"];
+pub const KINDS: [&str; 11] =
+    ["V", "T", "P", "P-parsed", "J", "R", "R-parsed", "Q-2", "Q-10", "Q-256", "Q-256u"];
 
 /// What the original does in each kind, for the reader of the table.
 pub const LEGEND: &str = "\
@@ -25,7 +26,9 @@ J         a line of JSON: serde_json::from_slice::<Value>
 R         a rule line and its users: serde_json::from_slice, Rule::try_from, then Rule::hit
 R-parsed  a rule line and its users: Rule::try_from of a value that was parsed beforehand, then Rule::hit
 Q-2       may a client publish, the last of 2 rules or none decides: AclHandler::hook, its rules read beforehand
-Q-10      the same, of 10 rules";
+Q-10      the same, of 10 rules
+Q-256     the same, of 256 rules with 8 filters each, which differ by their topics; the first, the last or none
+Q-256u    the same, of rules that differ by their users";
 
 /// Goes through the inputs until `n` calls are made; the number of yes.
 fn repeat(inputs: &[Input], n: usize, call: impl Fn(&Input) -> bool) -> usize {
@@ -43,7 +46,7 @@ pub fn bytes(kind: &str, inputs: &[Input]) -> f64 {
         "V" => i.checked.len(),
         "J" => i.line.len(),
         "R" | "R-parsed" => i.rule.len(),
-        "Q-2" => i.lists[0].text + i.text.len(),
+        "Q-2" | "Q-256" | "Q-256u" => i.lists[0].text + i.text.len(),
         "Q-10" => i.lists[1].text + i.text.len(),
         _ => i.filter.len() + i.text.len(),
     };
@@ -114,8 +117,8 @@ pub fn run(kind: &str, side: &str, inputs: &[Input], n: usize) -> usize {
             serde_json::from_slice(i.rule.as_bytes()).is_ok_and(|value| hits(&value, i))
         }),
         ("R-parsed", "rust") => repeat(inputs, n, |i| hits(&i.value, i)),
-        ("Q-2", "port") => repeat(inputs, n, |i| port_publishes(&i.lists[0], i)),
-        ("Q-2", "rust") => repeat(inputs, n, |i| rust_publishes(&i.lists[0], i)),
+        ("Q-2" | "Q-256" | "Q-256u", "port") => repeat(inputs, n, |i| port_publishes(&i.lists[0], i)),
+        ("Q-2" | "Q-256" | "Q-256u", "rust") => repeat(inputs, n, |i| rust_publishes(&i.lists[0], i)),
         ("Q-10", "port") => repeat(inputs, n, |i| port_publishes(&i.lists[1], i)),
         ("Q-10", "rust") => repeat(inputs, n, |i| rust_publishes(&i.lists[1], i)),
         (kind, side) => panic!("no such call: {kind} {side}"),

@@ -28,14 +28,13 @@ pub struct Input {
     pub id: Id,
     pub topic: Topic,
     pub tree: TopicTree<Option<u8>>,
-    /// For Q: two lists, and what is asked.
-    pub lists: [List; 2],
+    /// For Q: the lists of 2 and of 10 rules, or the one of 256; and what is asked.
+    pub lists: Vec<List>,
     pub session: Session,
     pub publish: Publish,
 }
 
-/// A list of rules of which the last has the filter: a store that is open for it, and the
-/// plugin's handler.
+/// A list of rules: a store that is open for it, and the plugin's handler.
 pub struct List {
     pub text: usize,
     pub store: Vec<u8>,
@@ -43,8 +42,9 @@ pub struct List {
     _plugin: Instance,
 }
 
-/// Document 01's counts for the program `decide`.
+/// Document 01's counts for the program `decide`, and with the longest rule text.
 const COUNTS: port::Counts = port::Counts { bytes: 2_048, filters: 64, eqs: 32, notes: 64 };
+const MANY: port::Counts = port::Counts { bytes: 32_768, ..COUNTS };
 
 /// Rules that don't decide: one by its users, one by its topics.
 const OTHERS: [&str; 2] = [
@@ -53,12 +53,28 @@ const OTHERS: [&str; 2] = [
 ];
 
 impl List {
+    /// The last rule has the filter.
     fn new(rules: usize, filter: &str) -> List {
         let own = format!("[\"allow\",{{\"user\":\"bo\"}},\"publish\",[\"{filter}\"]]");
-        let lines: Vec<&str> = OTHERS.iter().copied().cycle().take(rules - 1).chain([own.as_str()]).collect();
+        let others = OTHERS.iter().map(|rule| rule.to_string());
+        List::of(COUNTS, others.cycle().take(rules - 1).chain([own]).collect())
+    }
+
+    /// 256 rules of 8 filters each. They differ by their topics, or by their users.
+    fn many(by_users: bool) -> List {
+        let rule = |n: usize| {
+            if by_users {
+                return format!("[\"allow\",{{\"user\":\"u{n}\"}},\"publish\",[{}]]", filters("s"));
+            }
+            format!("[\"allow\",\"all\",\"publish\",[{}]]", filters(&format!("s{n:03}")))
+        };
+        List::of(MANY, (0..256).map(rule).collect())
+    }
+
+    fn of(counts: port::Counts, lines: Vec<String>) -> List {
         let text = lines.join("\n");
-        let mut store = vec![0; COUNTS.length()];
-        assert_eq!(port::open(&mut store, COUNTS, text.as_bytes()), 0, "{text}");
+        let mut store = vec![0; counts.length()];
+        assert_eq!(port::open(&mut store, counts, text.as_bytes()), 0, "{text}");
         let values: Vec<Value> =
             lines.iter().map(|line| serde_json::from_str(line).expect("a rule")).collect();
         let plugin = oracle::runtime().block_on(Instance::new(&values, true));
@@ -67,8 +83,40 @@ impl List {
     }
 }
 
+/// Eight filters below a level; the last takes `s/i/j`.
+fn filters(level: &str) -> String {
+    let ends = ["a/#", "b", "c/+", "+/d", "e/f", "g/#", "h", "i/j"];
+    ends.map(|end| format!("\"{level}/{end}\"")).join(",")
+}
+
 impl Input {
     fn new(filter: &str, text: &str, line: String, answer: bool) -> Input {
+        let lists = [2, 10].map(|rules| List::new(rules, filter)).into();
+        Input::of(filter, text, line, answer, if answer { "bo" } else { "al" }, lists)
+    }
+
+    /// Of the list of 256 rules the first decides, the last or none.
+    fn many(kind: &str, decides: &str) -> Input {
+        let by_users = kind == "Q-256u";
+        let n = match decides {
+            "first" => 0,
+            "last" => 255,
+            _ => 256,
+        };
+        let level = if by_users { "s".to_string() } else { format!("s{n:03}") };
+        let name = ["u0", "u255", "u256"][(n > 0) as usize + (n > 255) as usize];
+        let text = format!("{level}/i/j");
+        Input::of(&text, &text, line("short", &text), true, name, vec![List::many(by_users)])
+    }
+
+    fn of(
+        filter: &str,
+        text: &str,
+        line: String,
+        answer: bool,
+        name: &'static str,
+        lists: Vec<List>,
+    ) -> Input {
         let topic = Topic::from_str(filter).expect("a filter");
         let mut tree = TopicTree::default();
         tree.insert(&topic, None);
@@ -76,7 +124,7 @@ impl Input {
         let rule = line;
         let line = if answer { rule.clone() } else { format!("{}}}", &rule[..rule.len() - 1]) };
         let value = serde_json::from_str(&rule).expect("a value");
-        let (client, name) = ("g7", if answer { "bo" } else { "al" });
+        let client = "g7";
         let id = Id::new(None, ClientId::from(client), Some(UserName::from(name)));
         let question = Question {
             kind: Kind::Publish,
@@ -99,14 +147,21 @@ impl Input {
             id,
             topic,
             tree,
-            lists: [2, 10].map(|rules| List::new(rules, filter)),
+            lists,
             session: question.session(),
             publish: question.publish(),
         }
     }
 }
 
-pub const SIZES: [&str; 3] = ["short", "typical", "long"];
+/// The rows of a kind: the size of the inputs, or which rule decides, and the answer.
+pub fn rows(kind: &str) -> Vec<(&'static str, &'static str)> {
+    if kind.starts_with("Q-256") {
+        return vec![("first", "yes"), ("last", "yes"), ("none", "no")];
+    }
+    let sizes = ["short", "typical", "long"];
+    sizes.into_iter().flat_map(|size| [(size, "yes"), (size, "no")]).collect()
+}
 
 /// Filter, a text that matches, and one that doesn't, by its end.
 const SHORT: [[&str; 3]; 4] = [
@@ -166,7 +221,10 @@ fn line(size: &str, filter: &str) -> String {
     }
 }
 
-pub fn inputs(size: &str, answer: bool) -> Vec<Input> {
+pub fn inputs(kind: &str, size: &str, answer: bool) -> Vec<Input> {
+    if kind.starts_with("Q-256") {
+        return vec![Input::many(kind, size)];
+    }
     let pick = |filter: &str, yes: &str, no: &str| {
         Input::new(filter, if answer { yes } else { no }, line(size, filter), answer)
     };

@@ -9,13 +9,27 @@ use std::process::{Command, ExitCode};
 use std::time::Instant;
 
 use calls::{bytes, run, KINDS, LEGEND};
-use inputs::{inputs, Input, SIZES};
+use inputs::{inputs, rows, Input};
 
 const ROUNDS: usize = 21;
 /// About so long is one side of a round.
 const ROUND_NS: f64 = 4e6;
-/// Calls that callgrind counts.
-const COUNTED: usize = 1200;
+/// Calls that callgrind counts, and that are made to warm up.
+fn counted(kind: &str) -> usize {
+    if kind.starts_with("Q-256") {
+        60
+    } else {
+        1200
+    }
+}
+
+fn warming(kind: &str) -> usize {
+    if kind.starts_with("Q-256") {
+        200
+    } else {
+        10_000
+    }
+}
 
 fn ns_per_call(kind: &str, side: &str, inputs: &[Input], n: usize) -> f64 {
     let begin = Instant::now();
@@ -31,7 +45,7 @@ fn median(mut values: Vec<f64>) -> f64 {
 /// Nanoseconds of a call, the port's and the original's: the medians of rounds
 /// in which both are timed, one after the other.
 fn time(kind: &str, inputs: &[Input]) -> (f64, f64) {
-    let warm = |side| (ROUND_NS / ns_per_call(kind, side, inputs, 10_000)) as usize + 1;
+    let warm = |side| (ROUND_NS / ns_per_call(kind, side, inputs, warming(kind))) as usize + 1;
     let calls = (warm("port"), warm("rust"));
     let (mut port, mut rust) = (Vec::new(), Vec::new());
     for _ in 0..ROUNDS {
@@ -47,7 +61,7 @@ fn callgrind(kind: &str, size: &str, answer: &str, side: &str) -> Result<f64, St
     let output = Command::new("valgrind")
         .args(["--tool=callgrind", "--callgrind-out-file=/dev/null"])
         .arg(program)
-        .args(["--count", kind, size, answer, side, &COUNTED.to_string()])
+        .args(["--count", kind, size, answer, side, &counted(kind).to_string()])
         .output()
         .map_err(|e| format!("valgrind: {e}"))?;
     let log = String::from_utf8_lossy(&output.stderr);
@@ -61,12 +75,16 @@ fn callgrind(kind: &str, size: &str, answer: &str, side: &str) -> Result<f64, St
 /// Instructions of a call, the port's and the original's, without the loop.
 fn count(kind: &str, size: &str, answer: &str) -> Result<(f64, f64), String> {
     let none = callgrind(kind, size, answer, "none")?;
-    let of = |side| callgrind(kind, size, answer, side).map(|n| (n - none) / COUNTED as f64);
+    let of = |side| callgrind(kind, size, answer, side).map(|n| (n - none) / counted(kind) as f64);
     Ok((of("port")?, of("rust")?))
 }
 
 fn row(kind: &str, size: &str, answer: &str) -> Result<(), String> {
-    let inputs = inputs(size, answer == "yes");
+    let inputs = inputs(kind, size, answer == "yes");
+    for side in ["port", "rust"] {
+        let yes = run(kind, side, &inputs, inputs.len());
+        assert_eq!(yes, if answer == "yes" { inputs.len() } else { 0 }, "{kind} {size} {answer} {side}");
+    }
     let (port, rust) = time(kind, &inputs);
     let n = bytes(kind, &inputs);
     print!("{kind:8}  {size:7}  {answer:3}    {port:8.1} {rust:8.1}  {:5.2}", port / rust);
@@ -81,10 +99,8 @@ fn table(kinds: &[&str]) -> Result<(), String> {
     println!("                              ns a call              ns a byte   instructions a call");
     println!("kind      size     answer     port     Rust  ratio   port   Rust     port     Rust  ratio");
     for kind in kinds {
-        for size in SIZES {
-            for answer in ["yes", "no"] {
-                row(kind, size, answer)?;
-            }
+        for (size, answer) in rows(kind) {
+            row(kind, size, answer)?;
         }
     }
     Ok(())
@@ -98,7 +114,7 @@ fn main() -> ExitCode {
         ["--only", ref kinds @ ..] => table(kinds),
         ["--count", kind, size, answer, side, n] => match n.parse() {
             Ok(n) => {
-                run(kind, side, &inputs(size, answer == "yes"), n);
+                run(kind, side, &inputs(kind, size, answer == "yes"), n);
                 Ok(())
             }
             Err(_) => Err(format!("not a number: {n}")),
