@@ -7,7 +7,7 @@ use crate::templates::fill_topic;
 use crate::templates::first_topic;
 use crate::templates::next_topic;
 use json::Place;
-use json::lines::next_line;
+use json::splitting::next_line;
 use rule::Given;
 use rule::ID;
 use rule::Refusal;

@@ -4,7 +4,7 @@ use crate::FilledTopic;
 use json::Place;
 use json::access::first_element;
 use json::access::next_item;
-use json::lines::line_at;
+use json::splitting::line_at;
 use rule::Filling;
 use rule::Given;
 use rule::RuleRead;

@@ -5,7 +5,7 @@ use crate::SESSIONS;
 use crate::Shape;
 use crate::ShapeRead;
 use crate::rows::filter_text;
-use json::lines::count_lines;
+use json::splitting::count_lines;
 use rule::ID;
 use rule::LINES;
 use rule::TEXT;

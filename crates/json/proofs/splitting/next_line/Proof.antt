@@ -5,8 +5,8 @@ use denote.Ref.{now}
 use borrow.Author.Tests.{lt-ltb, le-ltb}
 use Rattle.json.proofs.LineLaws.{next-by}
 use borrow.Author.Needs.{needs}
-use Rattle.json.proofs.lines.next_line.Statement.{statement}
-use Rattle.json.proofs.lines.next_line.Tie as tie
+use Rattle.json.proofs.splitting.next_line.Statement.{statement}
+use Rattle.json.proofs.splitting.next_line.Tie as tie
 
 line-end-requires : tie.Need-line-end-requires
 line-end-requires c κs = search needs

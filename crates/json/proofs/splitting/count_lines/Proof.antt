@@ -6,8 +6,8 @@ use denote.Ref.{now}
 use lib.ListN.{length}
 use Rattle.json.proofs.LineLaws.{Counted, counted-more, counted-past, counted-all, next-after}
 use borrow.Author.Needs.{needs}
-use Rattle.json.proofs.lines.count_lines.Statement.{statement}
-use Rattle.json.proofs.lines.count_lines.Tie as tie
+use Rattle.json.proofs.splitting.count_lines.Statement.{statement}
+use Rattle.json.proofs.splitting.count_lines.Tie as tie
 
 abbrev Inv-loop : tie.InvT-loop
 Inv-loop text most n₀ at₀ n at = Counted text most n at

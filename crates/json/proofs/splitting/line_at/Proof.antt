@@ -4,8 +4,8 @@ use mathlib.Core.Path.{sym}
 use denote.Ref.{now}
 use Rattle.json.proofs.LineLaws.{line-past, line-part, line-within}
 use borrow.Author.Needs.{needs}
-use Rattle.json.proofs.lines.line_at.Statement.{statement}
-use Rattle.json.proofs.lines.line_at.Tie as tie
+use Rattle.json.proofs.splitting.line_at.Statement.{statement}
+use Rattle.json.proofs.splitting.line_at.Tie as tie
 
 slice-aggregate-result : tie.Need-slice-aggregate-result
 slice-aggregate-result c = search needs

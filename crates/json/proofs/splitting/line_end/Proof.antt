@@ -8,8 +8,8 @@ use denote.Ref.{now}
 use Rattle.json.specs.Lines.{lineAt}
 use Rattle.json.proofs.LineLaws.{end-past, end-lf, end-onward}
 use borrow.Author.Needs.{needs}
-use Rattle.json.proofs.lines.line_end.Statement.{statement}
-use Rattle.json.proofs.lines.line_end.Tie as tie
+use Rattle.json.proofs.splitting.line_end.Statement.{statement}
+use Rattle.json.proofs.splitting.line_end.Tie as tie
 
 abbrev Inv-loop : tie.InvT-loop
 Inv-loop text at i₀ i = i + length (lineAt text i) ≡ at + length (lineAt text at)
