@@ -1,0 +1,12 @@
+pub mod TextLaws
+pub mod ValueLaws
+pub mod ElementLaws
+pub mod ReadingLaws
+pub mod HappeningLaws
+pub mod AskerLaws
+pub mod AskingLaws
+pub mod AnswerLaws
+pub mod DecimalLaws
+pub mod OutputLaws
+pub mod InputLaws
+pub mod Examples

@@ -1,0 +1,5 @@
+pub mod Call
+pub mod Said
+pub mod Output
+pub mod Input
+pub mod Reading
