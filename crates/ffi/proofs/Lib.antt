@@ -1,3 +1,4 @@
 mod Laws
 mod AnswerLaws
 mod Unpacked
+mod ClientLaws

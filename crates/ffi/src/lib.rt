@@ -1,6 +1,8 @@
 // The library for C and Rust: what a host calls, under names that begin with `acl_`. Nothing of the repository calls it. A lent
 // text, and a store, crosses as its address, never null, and its length; `acl_open` and the events write the store, the questions only
 // read it. Answers on a store are the numbers of specs/Answers.antt.
+pub mod clients;
+
 use events::EventAnswer;
 use events::connecting::connected;
 use events::leaving::disconnected;

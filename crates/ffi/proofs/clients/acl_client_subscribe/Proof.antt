@@ -1,0 +1,32 @@
+-- The name that is given is that of the flag; every answer is small. Assumes nothing.
+use mathlib.Core.Path.{ap, _∙_}
+use denote.Ref.{now}
+use Rattle.authinfo.specs.Decision.{ask, subscribe}
+use Rattle.ffi.specs.Clients.{packed}
+use Rattle.ffi.proofs.ClientLaws.{client-small}
+use borrow.Author.Needs.{needs}
+use Rattle.ffi.proofs.clients.acl_client_subscribe.Statement.{statement}
+use Rattle.ffi.proofs.clients.acl_client_subscribe.Tie as tie
+
+given-text-requires : tie.Need-given-text-requires
+given-text-requires c κs = search needs
+
+client-subscribe-requires : tie.Need-client-subscribe-requires
+client-subscribe-requires c κs = search needs
+
+subscribe-number-requires : tie.Need-subscribe-number-requires
+subscribe-number-requires c κs = rw (c .client-subscribe .ensures) (client-small _ _ _)
+
+returns : tie.Need-returns
+returns c =
+    let a = c .before .before .before .before .before .before .before .args in
+    let name = c .before .before .given-text .ensures in
+    c .subscribe-number .ensures
+    ∙ ap packed
+    (c .before .client-subscribe .ensures
+    ∙ (λ i. ask (record { superuser = a .superuser; id = now (a .id); name = name i }) (now (a .rules)) (subscribe (a .qos) (now (a .topic)))))
+
+pub acl-client-subscribe-spec : {M : Type 1} → statement M
+acl-client-subscribe-spec =
+    tie.close
+    (tie.spec given-text-requires client-subscribe-requires subscribe-number-requires returns)

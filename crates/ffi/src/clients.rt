@@ -1,0 +1,152 @@
+// The per-client rules for a host: subscribe and publish by the rules that came with a client's credentials, and whether these still hold.
+// Answers are the numbers of specs/Clients.antt; an optional value counts where its flag is true.
+use crate::given_text;
+use crate::refusal_number;
+use authinfo::Expiry;
+use authinfo::ExpiryAnswer;
+use authinfo::PublishAnswer;
+use authinfo::SubscribeAnswer;
+use authinfo::ask::client_publish;
+use authinfo::ask::client_subscribe;
+use authinfo::times::expired;
+ghost use mathlib.Core.Path.{_≡_};
+ghost use Prim.Native.Nat.{_+_, _*_, _≤_};
+ghost use Rattle.authinfo.specs.Decision as decision;
+ghost use Rattle.authinfo.specs.Answers as said;
+ghost use Rattle.authinfo.specs.Expiry as expiry;
+ghost use Rattle.ffi.specs.Rules.{where-true};
+ghost use Rattle.ffi.specs.Clients as clients;
+
+// What is answered, below 16, with its rule, or its number and line.
+fn with_value(value: u64, what: u64) -> u64
+    requires { ⌜ 16 * value + what ≤ 1052832 ⌝ }
+    ensures { λ r. ⌜ r ≡ 16 * value + what ⌝ }
+{
+    16 * value + what
+}
+
+fn subscribe_number(answer: SubscribeAnswer) -> u64
+    requires { ⌜ clients.packed (said.subscribeSays answer) ≤ 1052832 ⌝ }
+    ensures { λ r. ⌜ r ≡ clients.packed (said.subscribeSays answer) ⌝ }
+{
+    match answer {
+        SubscribeAnswer::Allow(rule, qos) => with_value(rule as u64, 4 + qos),
+        SubscribeAnswer::Refuse(rule) => with_value(rule as u64, 8),
+        SubscribeAnswer::NoDecision => 12,
+        SubscribeAnswer::Refused(cause, line) => {
+            with_value(refusal_number(cause) as u64 + 256 * line as u64, 0)
+        }
+    }
+}
+
+// May the client subscribe to the topic, by its rules?
+#[no_mangle]
+pub extern "C" fn acl_client_subscribe(
+    superuser: bool,
+    id: &[u8],
+    has_name: bool,
+    name: &[u8],
+    rules: &[u8],
+    qos: u64,
+    topic: &[u8],
+) -> u64
+    ensures { λ r. ⌜ r ≡ clients.packed (decision.ask (record { superuser = superuser; id = now (id .entry); name = where-true «has_name» (now (name .entry)) }) (now (rules .entry)) (decision.subscribe qos (now (topic .entry)))) ⌝ }
+{
+    subscribe_number(client_subscribe(
+        superuser,
+        id,
+        given_text(has_name, name),
+        name,
+        rules,
+        qos,
+        topic,
+    ))
+}
+
+fn publish_number(answer: PublishAnswer) -> u64
+    requires { ⌜ clients.packed (said.publishSays answer) ≤ 1052832 ⌝ }
+    ensures { λ r. ⌜ r ≡ clients.packed (said.publishSays answer) ⌝ }
+{
+    match answer {
+        PublishAnswer::Allow(rule) => with_value(rule as u64, 7),
+        PublishAnswer::Refuse(rule, disconnect) => {
+            if disconnect {
+                return with_value(rule as u64, 10);
+            }
+            with_value(rule as u64, 9)
+        }
+        PublishAnswer::NoDecision => 12,
+        PublishAnswer::Refused(cause, line) => {
+            with_value(refusal_number(cause) as u64 + 256 * line as u64, 0)
+        }
+    }
+}
+
+// May the client publish to the topic, by its rules? A refusal by a rule carries the disconnect flag.
+#[no_mangle]
+pub extern "C" fn acl_client_publish(
+    superuser: bool,
+    id: &[u8],
+    has_name: bool,
+    name: &[u8],
+    rules: &[u8],
+    qos: u64,
+    retain: bool,
+    disconnect: bool,
+    topic: &[u8],
+) -> u64
+    ensures { λ r. ⌜ r ≡ clients.packed (decision.ask (record { superuser = superuser; id = now (id .entry); name = where-true «has_name» (now (name .entry)) }) (now (rules .entry)) (decision.publish qos retain disconnect (now (topic .entry)))) ⌝ }
+{
+    publish_number(client_publish(
+        superuser,
+        id,
+        given_text(has_name, name),
+        name,
+        rules,
+        qos,
+        retain,
+        disconnect,
+        topic,
+    ))
+}
+
+fn given_expiry(has: bool, seconds: u64, nanoseconds: u64) -> Expiry
+    ensures { λ r. ⌜ r ≡ clients.expiryOf has seconds nanoseconds ⌝ }
+{
+    if has {
+        return Expiry::At(seconds, nanoseconds);
+    }
+    Expiry::Never
+}
+
+fn expiry_number(answer: ExpiryAnswer) -> u64
+    ensures { λ r. ⌜ r ≡ clients.expiryNumber (expiry.expirySays answer) ⌝ }
+{
+    match answer {
+        ExpiryAnswer::Expired(is) => {
+            if is {
+                return 14;
+            }
+            13
+        }
+        ExpiryAnswer::Refused(cause) => 16 * refusal_number(cause) as u64,
+    }
+}
+
+// Are the credentials expired now, at these seconds and nanoseconds?
+#[no_mangle]
+pub extern "C" fn acl_expired(
+    has_expiry: bool,
+    expiry_seconds: u64,
+    expiry_nanoseconds: u64,
+    seconds: u64,
+    nanoseconds: u64,
+) -> u64
+    ensures { λ r. ⌜ r ≡ clients.expiryNumber (expiry.expiry (clients.expiryOf «has_expiry» «expiry_seconds» «expiry_nanoseconds») seconds nanoseconds) ⌝ }
+{
+    expiry_number(expired(
+        given_expiry(has_expiry, expiry_seconds, expiry_nanoseconds),
+        seconds,
+        nanoseconds,
+    ))
+}
