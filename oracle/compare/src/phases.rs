@@ -23,7 +23,7 @@ use crate::tally::Tally;
 
 /// Hands the blocks 0, 1, 2, .. to the processors until one says that there are
 /// no more.
-fn in_blocks(block: impl Fn(usize, &mut Tally) -> bool + Sync) -> Tally {
+pub fn in_blocks(block: impl Fn(usize, &mut Tally) -> bool + Sync) -> Tally {
     let next = AtomicUsize::new(0);
     let work = || {
         let mut tally = Tally::default();

@@ -3,6 +3,7 @@
 use std::fmt;
 
 use oracle::cases::{word, Case, Kind};
+use oracle::clients;
 use oracle::decide::Kind as QuestionKind;
 use oracle::events::{Event, History, Step};
 use oracle::json::{judge, Judged};
@@ -14,7 +15,7 @@ use crate::histories::Judged as JudgedStep;
 /// The rows of the table: kind and the Rust's answer. Intended are answers no to
 /// a line that serde_json reads, or the plugin takes for a rule, and document 01
 /// doesn't; and an address that only document 01 can have.
-const ROWS: [(&str, &str); 71] = [
+const ROWS: [(&str, &str); 89] = [
     ("V", "yes"),
     ("V", "no"),
     ("T", "yes"),
@@ -86,12 +87,34 @@ const ROWS: [(&str, &str); 71] = [
     ("E", "publish: kept"),
     ("E", "intended: 1, too long"),
     ("E", "intended: 2, range"),
+    ("C", "subscribe: allow"),
+    ("C", "subscribe: refused"),
+    ("C", "subscribe: no rule"),
+    ("C", "publish: allow"),
+    ("C", "publish: refused"),
+    ("C", "publish: dropped"),
+    ("C", "publish: no rule"),
+    ("C", "superuser"),
+    ("C", "no: 1, too long"),
+    ("C", "no: 5, not JSON"),
+    ("C", "no: 6, no rule"),
+    ("C", "no: 7, filled"),
+    ("C", "intended: 1, 2"),
+    ("C", "intended: 5"),
+    ("C", "intended: 7"),
+    ("X", "expired"),
+    ("X", "valid"),
+    ("X", "intended: 2"),
 ];
 
 /// Where the rows of questions begin, of Q and of E, and those of events.
 const QUESTIONS: usize = 27;
 const EVENTS: usize = 43;
 const IN_BETWEEN: usize = 55;
+
+/// The first row of C, and of X.
+const CLIENTS: usize = 71;
+const EXPIRY: usize = CLIENTS + 15;
 
 /// So many differences of a row of Q or E are reduced, on each processor: it takes its time.
 const REDUCED: u64 = 20;
@@ -109,6 +132,8 @@ enum Asked {
     Question(List, questions::Asked, Reply, u32),
     /// With what is said of its last step.
     History(History, String),
+    Client(clients::Asked, u64),
+    Times(clients::Times, u64),
 }
 
 impl Asked {
@@ -123,6 +148,8 @@ impl Asked {
                 (list.size() + asked.size(), asked.topic.as_bytes(), asked.client.id.as_bytes())
             }
             Asked::History(history, said) => (history.size(), said.as_bytes(), &[]),
+            Asked::Client(asked, _) => (asked.size(), &asked.rules, asked.topic.as_bytes()),
+            Asked::Times(..) => (0, &[], &[]),
         }
     }
 }
@@ -262,6 +289,44 @@ impl Tally {
         }
     }
 
+    /// Counts one question of C; of the first that differ `reduce` makes small ones.
+    pub fn count_client(
+        &mut self,
+        asked: &clients::Asked,
+        rust: clients::Reply,
+        port: u64,
+        reduce: impl FnOnce() -> (clients::Asked, u64),
+    ) {
+        use clients::Reply::{NoDecision, NotAuthorized, Publishes, Refused, Subscribes};
+        let row = CLIENTS
+            + match rust {
+                Subscribes { rule: 0, .. } | Publishes { rule: 0 } => 7,
+                Subscribes { .. } => 0,
+                Publishes { .. } => 3,
+                NotAuthorized { disconnect: None, .. } => 1,
+                NotAuthorized { disconnect: Some(disconnect), .. } => 4 + disconnect as usize,
+                NoDecision => 2 + 4 * asked.publish as usize,
+                Refused { number, intended: false, .. } => [8, 8, 8, 8, 8, 9, 10, 11][number as usize],
+                Refused { number, intended: true, .. } => [12, 12, 12, 12, 12, 13, 13, 14][number as usize],
+            };
+        self.cases[row] += 1;
+        if rust.number() != port && self.differences[row] < REDUCED {
+            let (asked, port) = reduce();
+            self.differ(row, Asked::Client(asked, port));
+        } else if rust.number() != port {
+            self.differences[row] += 1;
+        }
+    }
+
+    /// Counts one expiry of X.
+    pub fn count_expiry(&mut self, times: &clients::Times, rust: Option<bool>, port: u64) {
+        let row = EXPIRY + rust.map_or(2, |expired| !expired as usize);
+        self.cases[row] += 1;
+        if clients::expiry_number(rust) != port {
+            self.differ(row, Asked::Times(*times, port));
+        }
+    }
+
     #[cold]
     fn differ(&mut self, row: usize, asked: Asked) {
         self.differences[row] += 1;
@@ -369,6 +434,20 @@ impl fmt::Display for Asked {
             }
             Asked::Question(list, asked, rust, port) => return fmt_question(f, list, asked, *rust, *port),
             Asked::History(history, said) => return fmt_history(f, history, said),
+            Asked::Client(asked, port) => {
+                writeln!(f, "\ndifference, C: rules b\"{}\"", asked.rules.escape_ascii())?;
+                writeln!(f, "  {asked:?}")?;
+                let rust = asked.judge();
+                let number = rust.number();
+                return writeln!(f, "  judged: {rust:?}; the judge answers {number}, the port {port}");
+            }
+            Asked::Times(times, port) => {
+                let number = clients::expiry_number(clients::expired(times));
+                return writeln!(
+                    f,
+                    "\ndifference, X: {times:?}: the judge answers {number}, the port {port}"
+                );
+            }
         };
         writeln!(f, "  the judge answers {}, the port {}", word(rust), word(!rust))
     }

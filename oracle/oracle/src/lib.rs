@@ -3,6 +3,7 @@
 //! line of JSON serde_json's.
 
 pub mod cases;
+pub mod clients;
 pub mod decide;
 pub mod events;
 pub mod generate;

@@ -1,6 +1,8 @@
 //! The port's exported functions, safe on slices. A lent text crosses as its
 //! place, never null, and its length.
 
+pub mod clients;
+
 mod exported {
     extern "C" {
         pub fn acl_valid_filter(s: *const u8, s_len: usize) -> bool;

@@ -74,7 +74,7 @@ pub fn judge(line: &[u8]) -> Judged {
 }
 
 /// A value that may be absent; then what the port is lent all the same.
-#[derive(Clone, Debug, PartialEq, Eq, PartialOrd, Ord)]
+#[derive(Clone, Copy, Debug, PartialEq, Eq, PartialOrd, Ord)]
 pub struct Lent<T> {
     pub given: bool,
     pub value: T,
