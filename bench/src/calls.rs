@@ -6,6 +6,7 @@ use std::pin::pin;
 use std::str::FromStr;
 use std::task::{Context, Poll, Waker};
 
+use rmqtt::acl::{self, AuthInfo};
 use rmqtt::hook::{HookResult, Parameter};
 use rmqtt::topic::Topic;
 use rmqtt_acl::exposed::Rule;
@@ -13,8 +14,8 @@ use serde_json::Value;
 
 use crate::inputs::{Input, List};
 
-pub const KINDS: [&str; 11] =
-    ["V", "T", "P", "P-parsed", "J", "R", "R-parsed", "Q-2", "Q-10", "Q-256", "Q-256u"];
+pub const KINDS: [&str; 13] =
+    ["V", "T", "P", "P-parsed", "J", "R", "R-parsed", "Q-2", "Q-10", "Q-256", "Q-256u", "C-10", "C-parsed"];
 
 /// What the original does in each kind, for the reader of the table.
 pub const LEGEND: &str = "\
@@ -28,7 +29,10 @@ R-parsed  a rule line and its users: Rule::try_from of a value that was parsed b
 Q-2       may a client publish, the last of 2 rules or none decides: AclHandler::hook, its rules read beforehand
 Q-10      the same, of 10 rules
 Q-256     the same, of 256 rules with 8 filters each, which differ by their topics; the first, the last or none
-Q-256u    the same, of rules that differ by their users";
+Q-256u    the same, of rules that differ by their users
+C-10      may a client publish, the last of its own 10 rules or none decides: serde_json::from_slice and
+          Rule::try_from of each line (acl.rs), then AuthInfo::publish_acl
+C-parsed  the same with values that were parsed beforehand";
 
 /// Goes through the inputs until `n` calls are made; the number of yes.
 fn repeat(inputs: &[Input], n: usize, call: impl Fn(&Input) -> bool) -> usize {
@@ -48,6 +52,7 @@ pub fn bytes(kind: &str, inputs: &[Input]) -> f64 {
         "R" | "R-parsed" => i.rule.len(),
         "Q-2" | "Q-256" | "Q-256u" => i.lists[0].text + i.text.len(),
         "Q-10" => i.lists[1].text + i.text.len(),
+        "C-10" | "C-parsed" => i.own.text.len() + i.text.len(),
         _ => i.filter.len() + i.text.len(),
     };
     inputs.iter().map(of).sum::<usize>() as f64 / inputs.len() as f64
@@ -91,6 +96,39 @@ fn rust_publishes(list: &List, i: &Input) -> bool {
     }
 }
 
+/// The same by the client's own rules.
+fn port_allows(i: &Input) -> bool {
+    let client = port::clients::Owner {
+        superuser: false,
+        id: i.client.as_bytes(),
+        name: (true, i.name.as_bytes()),
+        rules: i.own.text.as_bytes(),
+    };
+    port::clients::publish(client, 0, false, true, i.text.as_bytes()) % 16 == 7
+}
+
+fn rust_allows(i: &Input, rules: Option<Vec<acl::Rule>>) -> bool {
+    let Some(rules) = rules else { panic!("a rule is refused") };
+    let auth = AuthInfo { superuser: false, expire_at: None, rules };
+    match ready(auth.publish_acl(&i.own.publish, true)) {
+        Some((false, Some(HookResult::PublishAclResult(result)))) => result.is_allow(),
+        None => false,
+        _ => panic!("no answer"),
+    }
+}
+
+fn read_rules(i: &Input) -> Option<Vec<acl::Rule>> {
+    let rule = |line: &String| {
+        let value: Value = serde_json::from_slice(line.as_bytes()).ok()?;
+        acl::Rule::try_from((&value, &i.own.connect)).ok()
+    };
+    i.own.lines.iter().map(rule).collect()
+}
+
+fn converted_rules(i: &Input) -> Option<Vec<acl::Rule>> {
+    i.own.values.iter().map(|value| acl::Rule::try_from((value, &i.own.connect)).ok()).collect()
+}
+
 /// Makes exactly `n` calls. The side is `port`, `rust`, or `none`, which makes
 /// the same loop without a call.
 pub fn run(kind: &str, side: &str, inputs: &[Input], n: usize) -> usize {
@@ -121,6 +159,9 @@ pub fn run(kind: &str, side: &str, inputs: &[Input], n: usize) -> usize {
         ("Q-2" | "Q-256" | "Q-256u", "rust") => repeat(inputs, n, |i| rust_publishes(&i.lists[0], i)),
         ("Q-10", "port") => repeat(inputs, n, |i| port_publishes(&i.lists[1], i)),
         ("Q-10", "rust") => repeat(inputs, n, |i| rust_publishes(&i.lists[1], i)),
+        ("C-10" | "C-parsed", "port") => repeat(inputs, n, port_allows),
+        ("C-10", "rust") => repeat(inputs, n, |i| rust_allows(i, read_rules(i))),
+        ("C-parsed", "rust") => repeat(inputs, n, |i| rust_allows(i, converted_rules(i))),
         (kind, side) => panic!("no such call: {kind} {side}"),
     }
 }

@@ -6,11 +6,13 @@ use std::str::FromStr;
 use std::sync::Arc;
 
 use oracle::decide::{Instance, Kind, Question};
+use rmqtt::codec::types::Protocol;
+use rmqtt::codec::v3;
 use rmqtt::hook::{Handler, Type};
 use rmqtt::session::Session;
 use rmqtt::topic::Topic;
 use rmqtt::trie::TopicTree;
-use rmqtt::types::{ClientId, Id, Publish, QoS, UserName};
+use rmqtt::types::{ClientId, CodecPublish, ConnectInfo, Id, Publish, QoS, UserName};
 use serde_json::Value;
 
 pub struct Input {
@@ -32,6 +34,41 @@ pub struct Input {
     pub lists: Vec<List>,
     pub session: Session,
     pub publish: Publish,
+    /// For C: the client's rules, as lines, as one text and as values, and its CONNECT.
+    pub own: Own,
+}
+
+pub struct Own {
+    pub lines: Vec<String>,
+    pub text: String,
+    pub values: Vec<Value>,
+    pub connect: ConnectInfo,
+    pub publish: CodecPublish,
+}
+
+/// Per-client rules that don't decide: by their action, their topic, their QoS.
+const OWN_OTHERS: [&str; 3] = [
+    r#"{"permission":"deny","action":"subscribe","topic":"eq public/${username}/log"}"#,
+    r##"{"permission":"allow","action":"publish","topic":"home/${clientid}/#","retain":false}"##,
+    r#"{"permission":"deny","action":"all","qos":[1,2],"topic":"shop/+/bench/${clientid}/set"}"#,
+];
+
+impl Own {
+    /// Ten rules, of which the last has the filter.
+    fn new(filter: &str, text: &str, id: &Id, name: &str) -> Own {
+        let last = format!("{{\"permission\":\"allow\",\"action\":\"all\",\"topic\":\"{filter}\"}}");
+        let lines: Vec<String> =
+            OWN_OTHERS.iter().cycle().take(9).map(|line| line.to_string()).chain([last]).collect();
+        let username = Some(UserName::from(name));
+        let connect = v3::Connect { protocol: Protocol(4), username, password: None };
+        Own {
+            text: lines.join("\n"),
+            values: lines.iter().map(|line| serde_json::from_str(line).expect("a rule")).collect(),
+            lines,
+            connect: ConnectInfo::V3(id.clone(), Box::new(connect)),
+            publish: CodecPublish { retain: false, qos: QoS::AtMostOnce, topic: text.into() },
+        }
+    }
 }
 
 /// A list of rules: a store that is open for it, and the plugin's handler.
@@ -144,12 +181,13 @@ impl Input {
             value,
             client,
             name,
-            id,
+            id: id.clone(),
             topic,
             tree,
             lists,
             session: question.session(),
             publish: question.publish(),
+            own: Own::new(filter, text, &id, name),
         }
     }
 }
