@@ -1,3 +1,4 @@
 mod Laws
 mod Tests
 mod AskingLaws
+mod ClientLaws

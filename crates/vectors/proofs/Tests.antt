@@ -24,14 +24,14 @@ kind-letter (a ∷ []) l e = ap (λ b. kindOf (b ∷ [])) e
 kind-letter (a ∷ b ∷ word) l e = absurd (omega arith)
 
 pub kind-other : (word : List ℕ) → length word ≡ 1 →
-    (getD word 0 0 ≡ 86 → ⊥) → (getD word 0 0 ≡ 84 → ⊥) → (getD word 0 0 ≡ 80 → ⊥) → (getD word 0 0 ≡ 74 → ⊥) → (getD word 0 0 ≡ 76 → ⊥) → (getD word 0 0 ≡ 82 → ⊥) → (getD word 0 0 ≡ 73 → ⊥) → (getD word 0 0 ≡ 81 → ⊥) → kindOf word ≡ Nothing
+    (getD word 0 0 ≡ 86 → ⊥) → (getD word 0 0 ≡ 84 → ⊥) → (getD word 0 0 ≡ 80 → ⊥) → (getD word 0 0 ≡ 74 → ⊥) → (getD word 0 0 ≡ 76 → ⊥) → (getD word 0 0 ≡ 82 → ⊥) → (getD word 0 0 ≡ 73 → ⊥) → (getD word 0 0 ≡ 81 → ⊥) → (getD word 0 0 ≡ 67 → ⊥) → kindOf word ≡ Nothing
 unfolding kindOf same
-kind-other word l v t p j m r i q = kind-letter word l refl ∙ (rw (ne-eqb _ _ v, ne-eqb _ _ t, ne-eqb _ _ p, ne-eqb _ _ j, ne-eqb _ _ m, ne-eqb _ _ r, ne-eqb _ _ i, ne-eqb _ _ q))
+kind-other word l v t p j m r i q k = kind-letter word l refl ∙ (rw (ne-eqb _ _ v, ne-eqb _ _ t, ne-eqb _ _ p, ne-eqb _ _ j, ne-eqb _ _ m, ne-eqb _ _ r, ne-eqb _ _ i, ne-eqb _ _ q, ne-eqb _ _ k))
 
 -- a word of another length is none
 pub kind-long : (word : List ℕ) → (length word ≡ 1 → ⊥) → kindOf word ≡ Nothing
 unfolding kindOf
-kind-long word l = rw (same-lengths word (ascii "V") l, same-lengths word (ascii "T") l, same-lengths word (ascii "P") l, same-lengths word (ascii "J") l, same-lengths word (ascii "L") l, same-lengths word (ascii "R") l, same-lengths word (ascii "I") l, same-lengths word (ascii "Q") l)
+kind-long word l = rw (same-lengths word (ascii "V") l, same-lengths word (ascii "T") l, same-lengths word (ascii "P") l, same-lengths word (ascii "J") l, same-lengths word (ascii "L") l, same-lengths word (ascii "R") l, same-lengths word (ascii "I") l, same-lengths word (ascii "Q") l, same-lengths word (ascii "C") l)
 
 pub compared-by : (kind : Kind) (answer : Bool) (recorded : List ℕ) {yes no : Bool} →
     same recorded (ascii "yes") ≡ yes → same recorded (ascii "no") ≡ no →

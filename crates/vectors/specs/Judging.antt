@@ -12,10 +12,11 @@ use Rattle.questions.specs.Question.{Question}
 use Rattle.questions.specs.Decision.{ask}
 use Rattle.ffi.specs.Rules.{where-true, refusalOf, identityOf}
 use Rattle.ffi.specs.Answers.{packed}
-use Rattle.vectors.specs.Fields.{rest, field, isGiven, number}
+use Rattle.vectors.specs.Fields.{rest, field, isGiven, lent, number}
 use Rattle.vectors.specs.Asking.{fits, opened, textIn, connectOf, subscribeOf, publishOf, isWord}
+use Rattle.vectors.specs.Clients.{clientAnswer, isPacked}
 use Rattle.vectors.specs.declared.judging.Kind.{Kind}
-use Rattle.vectors.specs.declared.judging.Kind.the-variants.{Valid, Tree, Plain, Document, Within, RuleLine, Identity, OnStore}
+use Rattle.vectors.specs.declared.judging.Kind.the-variants.{Valid, Tree, Plain, Document, Within, RuleLine, Identity, OnStore, Client}
 use Rattle.vectors.specs.declared.judging.Named.{Named}
 use Rattle.vectors.specs.declared.judging.Named.the-variants.{Of, Nothing}
 use Rattle.vectors.specs.declared.judging.Judged.{Judged}
@@ -27,7 +28,7 @@ kindOf word =
     cond (same word (ascii "V")) (Of Valid)
     (cond (same word (ascii "T")) (Of Tree)
     (cond (same word (ascii "P")) (Of Plain)
-    (cond (same word (ascii "J")) (Of Document) (cond (same word (ascii "L")) (Of Within) (cond (same word (ascii "R")) (Of RuleLine) (cond (same word (ascii "I")) (Of Identity) (cond (same word (ascii "Q")) (Of OnStore) Nothing)))))))
+    (cond (same word (ascii "J")) (Of Document) (cond (same word (ascii "L")) (Of Within) (cond (same word (ascii "R")) (Of RuleLine) (cond (same word (ascii "I")) (Of Identity) (cond (same word (ascii "Q")) (Of OnStore) (cond (same word (ascii "C")) (Of Client) Nothing))))))))
 
 abbrev pub verdict : Kind → Bool → Judged
 verdict kind agrees = cond agrees (Agrees kind) (Differs kind)
@@ -65,7 +66,8 @@ storeAsked line =
 -- what a line of this kind asks, and its recorded answer: `V`, text, answer; `T`, filter, text, answer; `P` likewise. The answer is all
 -- that is left of the line, so that no field is left over. `J`, answer, JSON line; `L` likewise; `R`, 0 or the number of document 01, rule line:
 -- the line of JSON or of a rule is all that is left. `I`, 0 they differ, 1 they agree, 2 they agree with the superuser flag or 3 no rule, client id,
--- name, password, address, protocol, rule line: the four before the rule line are optional. `Q`: specs/Asking.antt
+-- name, password, address, protocol, rule line: the four before the rule line are optional. `Q`: specs/Asking.antt; `C`:
+-- specs/Clients.antt
 unfoldable pub asked : List ℕ → Kind → Judged
 asked line Valid = compared Valid (validFilter (field 1 line)) (rest 2 line)
 asked line Tree = compared Tree (treeMatch (field 1 line) (field 2 line)) (rest 3 line)
@@ -75,6 +77,7 @@ asked line Within = compared Within (documentWithin 256 (lineValue (rest 2 line)
 asked line RuleLine = verdict RuleLine (isDigit (refusalOf (rest 2 line)) (field 1 line))
 asked line Identity = verdict Identity (isDigit (identityAsked line) (field 1 line))
 asked line OnStore = storeAsked line
+asked line Client = verdict Client (isPacked (clientAnswer line) (field 1 line))
 
 -- what a line comes to
 unfoldable pub judgeNamed : List ℕ → Named → Judged

@@ -3,14 +3,14 @@ use Prim.Native.Nat.{ℕ, _+_, _%_, _^_}
 use mathlib.Core.List.{List}
 use lib.ListN.{getD, set}
 use Rattle.vectors.specs.declared.judging.Kind.{Kind}
-use Rattle.vectors.specs.declared.judging.Kind.the-variants.{Valid, Tree, Plain, Document, Within, RuleLine, Identity, OnStore}
+use Rattle.vectors.specs.declared.judging.Kind.the-variants.{Valid, Tree, Plain, Document, Within, RuleLine, Identity, OnStore, Client}
 use Rattle.vectors.specs.declared.judging.Judged.{Judged}
 use Rattle.vectors.specs.declared.judging.Judged.the-variants.{Agrees, Differs, Malformed}
 use Rattle.vectors.specs.declared.tallies.Tallies.{Tallies}
 
 -- the number of kinds, and where each is counted
 abbrev pub kinds : ℕ
-kinds = 8
+kinds = 9
 
 abbrev pub place : Kind → ℕ
 place Valid = 0
@@ -21,6 +21,7 @@ place Within = 4
 place RuleLine = 5
 place Identity = 6
 place OnStore = 7
+place Client = 8
 
 -- one more of this kind, in 64 bits
 unfoldable pub oneMore : List ℕ → Kind → List ℕ

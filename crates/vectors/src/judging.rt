@@ -6,6 +6,8 @@ use crate::asking::is_word;
 use crate::asking::open_rules;
 use crate::asking::publish_answer;
 use crate::asking::subscribe_answer;
+use crate::clients::client_answer;
+use crate::clients::is_packed;
 use crate::fields::field;
 use crate::fields::is_given;
 use crate::fields::lent;
@@ -16,8 +18,8 @@ ghost use Rattle.vectors.specs.Fields.{field};
 ghost use Rattle.vectors.specs.Judging as spec;
 
 // The kinds of questions: is it a valid filter (`V`), Tree match (`T`), Plain match (`P`), is it a JSON document (`J`), one whose
-// strings are within the limit (`L`), is it a rule, or why not (`R`), does the rule mean a client (`I`), and connect, subscribe or
-// publish on a store (`Q`).
+// strings are within the limit (`L`), is it a rule, or why not (`R`), does the rule mean a client (`I`), connect, subscribe or
+// publish on a store (`Q`), and what does a client's own rule say (`C`).
 pub enum Kind {
     Valid,
     Tree,
@@ -27,6 +29,7 @@ pub enum Kind {
     RuleLine,
     Identity,
     OnStore,
+    Client,
 }
 
 // What the first field of a line names.
@@ -58,6 +61,7 @@ fn kind_of(word: &[u8]) -> Named
         b'R' => Named::Of(Kind::RuleLine),
         b'I' => Named::Of(Kind::Identity),
         b'Q' => Named::Of(Kind::OnStore),
+        b'C' => Named::Of(Kind::Client),
         _ => Named::Nothing,
     }
 }
@@ -201,6 +205,14 @@ fn question_line(line: &[u8]) -> Judged
     Judged::Malformed
 }
 
+// A line `C`, answer, and a question that `clients` asks.
+fn client_line(line: &[u8]) -> Judged
+    ensures { λ r. ⌜ r ≡ spec.asked (now (line .entry)) Kind.Client ⌝ }
+{
+    let answer = client_answer(line);
+    verdict(Kind::Client, is_packed(answer, field(line, 1)))
+}
+
 // Does the line's answer agree with what this port answers?
 pub fn judge(line: &[u8]) -> Judged
     ensures { λ r. ⌜ r ≡ spec.judge (now (line .entry)) ⌝ }
@@ -216,6 +228,7 @@ pub fn judge(line: &[u8]) -> Judged
             Kind::RuleLine => rule_line(line),
             Kind::Identity => identity_line(line),
             Kind::OnStore => question_line(line),
+            Kind::Client => client_line(line),
         },
     }
 }

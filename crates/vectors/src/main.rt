@@ -2,6 +2,7 @@
 // between the fields (oracle/README.md says how they are made), writes each line that this port answers otherwise, and, at the end,
 // how many of each kind agree.
 mod asking;
+mod clients;
 mod fields;
 mod input;
 mod judging;

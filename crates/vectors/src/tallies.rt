@@ -8,9 +8,9 @@ ghost use Prim.Native.Nat.{_<_};
 ghost use Rattle.vectors.specs.Tallies as spec;
 
 // The number of kinds, and the letter of each, in the order of `place`.
-const KINDS: usize = 8;
+const KINDS: usize = 9;
 
-const LETTERS: [u8; KINDS] = [b'V', b'T', b'P', b'J', b'L', b'R', b'I', b'Q'];
+const LETTERS: [u8; KINDS] = [b'V', b'T', b'P', b'J', b'L', b'R', b'I', b'Q', b'C'];
 
 // Where a kind is counted.
 fn place(kind: Kind) -> usize
@@ -25,6 +25,7 @@ fn place(kind: Kind) -> usize
         Kind::RuleLine => 5,
         Kind::Identity => 6,
         Kind::OnStore => 7,
+        Kind::Client => 8,
     }
 }
 

@@ -3,6 +3,7 @@
 use std::collections::{HashMap, HashSet};
 
 use crate::cases::{examples, word, Case, Kind, KINDS};
+use crate::clients;
 use crate::generate::{self, is_readable, pad, Random, LIMIT};
 use crate::json;
 use crate::matching;
@@ -47,10 +48,11 @@ impl Sample {
 }
 
 /// The whole sample: the same bytes each time. Filters and matching come first, then rules
-/// and their clients, questions last.
+/// and their clients, per-client questions, questions last.
 pub fn sample() -> Vec<u8> {
     let matches = matches().into_bytes();
-    [matches, json::sample::sample(), rules::sample::sample(), questions::sample::sample()].concat()
+    let rules = [json::sample::sample(), rules::sample::sample()].concat();
+    [matches, rules, clients::sample::sample(), questions::sample::sample()].concat()
 }
 
 fn matches() -> String {

@@ -67,6 +67,12 @@ enum-told-9 c = search needs
 question-line-requires : tie.Need-question-line-requires
 question-line-requires c κs = search needs
 
+enum-told-10 : tie.Need-enum-told-10
+enum-told-10 c = search needs
+
+client-line-requires : tie.Need-client-line-requires
+client-line-requires c κs = search needs
+
 returns : tie.Need-returns
 unfolding judgeNamed
 returns c = sym (judge-by _ _ (c .before .before .kind-of .ensures) (c .before .before .before .field .ensures) (c .enum-told .given .1))
@@ -103,6 +109,10 @@ returns-9 : tie.Need-returns-9
 unfolding judgeNamed
 returns-9 c = c .question-line .ensures ∙ sym (judge-by _ _ (c .before .before .before .before .before .before .kind-of .ensures) (c .before .before .before .before .before .before .before .field .ensures) (c .before .before .before .before .kind .given .1 ∙ ap Of (c .before .enum-told9 .given .1)))
 
+returns-10 : tie.Need-returns-10
+unfolding judgeNamed
+returns-10 c = c .client-line .ensures ∙ sym (judge-by _ _ (c .before .before .before .before .before .before .kind-of .ensures) (c .before .before .before .before .before .before .before .field .ensures) (c .before .before .before .before .kind .given .1 ∙ ap Of (c .before .enum-told10 .given .1)))
+
 pub judge-spec : {M : Type 1} → statement M
 judge-spec =
     tie.close
@@ -127,6 +137,8 @@ judge-spec =
     identity-line-requires
     enum-told-9
     question-line-requires
+    enum-told-10
+    client-line-requires
     returns
     returns-2
     returns-3
@@ -135,4 +147,5 @@ judge-spec =
     returns-6
     returns-7
     returns-8
-    returns-9)
+    returns-9
+    returns-10)

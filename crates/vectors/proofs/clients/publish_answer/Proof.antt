@@ -1,0 +1,83 @@
+-- Each call has its part of the definition. Assumes nothing.
+use Rattle.vectors.specs.Clients.{clientIn, publishAnswer}
+use borrow.Author.Needs.{needs}
+use Rattle.vectors.proofs.clients.publish_answer.Statement.{statement}
+use Rattle.vectors.proofs.clients.publish_answer.Tie as tie
+
+field-requires : tie.Need-field-requires
+field-requires c κs = search needs
+
+field-requires-2 : tie.Need-field-requires-2
+field-requires-2 c κs = search needs
+
+is-given-requires : tie.Need-is-given-requires
+is-given-requires c κs = search needs
+
+field-requires-3 : tie.Need-field-requires-3
+field-requires-3 c κs = search needs
+
+is-given-requires-2 : tie.Need-is-given-requires-2
+is-given-requires-2 c κs = search needs
+
+lent-requires : tie.Need-lent-requires
+lent-requires c κs = search needs
+
+rest-requires : tie.Need-rest-requires
+rest-requires c κs = search needs
+
+field-requires-4 : tie.Need-field-requires-4
+field-requires-4 c κs = search needs
+
+number-requires : tie.Need-number-requires
+number-requires c κs = search needs
+
+cast-acl-client-publish : tie.Need-cast-acl-client-publish
+cast-acl-client-publish c = search needs
+
+field-requires-5 : tie.Need-field-requires-5
+field-requires-5 c κs = search needs
+
+is-given-requires-3 : tie.Need-is-given-requires-3
+is-given-requires-3 c κs = search needs
+
+field-requires-6 : tie.Need-field-requires-6
+field-requires-6 c κs = search needs
+
+is-given-requires-4 : tie.Need-is-given-requires-4
+is-given-requires-4 c κs = search needs
+
+field-requires-7 : tie.Need-field-requires-7
+field-requires-7 c κs = search needs
+
+acl-client-publish-requires : tie.Need-acl-client-publish-requires
+acl-client-publish-requires c κs = search needs
+
+returns : tie.Need-returns
+unfolding publishAnswer clientIn
+returns c =
+    rw (c .acl-client-publish .ensures, c .before .field7 .ensures, c .before .before .is-given4 .ensures, c .before .before .before .field6 .ensures)
+    (rw (c .before .before .before .before .is-given3 .ensures, c .before .before .before .before .before .field5 .ensures, c .before .before .before .before .before .before .number .ensures, c .before .before .before .before .before .before .before .field4 .ensures)
+    (rw (c .before .before .before .before .before .before .before .before .rest .ensures, c .before .before .before .before .before .before .before .before .before .lent .ensures, c .before .before .before .before .before .before .before .before .before .before .is-given2 .ensures, c .before .before .before .before .before .before .before .before .before .before .before .field3 .ensures)
+    (rw (c .before .before .before .before .before .before .before .before .before .before .before .before .is-given .ensures, c .before .before .before .before .before .before .before .before .before .before .before .before .before .field2 .ensures, c .before .before .before .before .before .before .before .before .before .before .before .before .before .before .field .ensures))))
+
+pub publish-answer-spec : {M : Type 1} → statement M
+publish-answer-spec =
+    tie.close
+    (tie.spec
+    field-requires
+    field-requires-2
+    is-given-requires
+    field-requires-3
+    is-given-requires-2
+    lent-requires
+    rest-requires
+    field-requires-4
+    number-requires
+    cast-acl-client-publish
+    field-requires-5
+    is-given-requires-3
+    field-requires-6
+    is-given-requires-4
+    field-requires-7
+    acl-client-publish-requires
+    returns)
