@@ -47,10 +47,14 @@ unfolding kindOf same
 returns-9 c = sym (kind-letter (now (c .before .before .before .args .word)) (c .before .before .if1 .left) (c .match .keys8))
 
 returns-10 : tie.Need-returns-10
-returns-10 c =
+unfolding kindOf same
+returns-10 c = sym (kind-letter (now (c .before .before .before .args .word)) (c .before .before .if1 .left) (c .match .keys9))
+
+returns-11 : tie.Need-returns-11
+returns-11 c =
     let r = c .match .rest in
-    sym (kind-other _ (c .before .before .if1 .left) (r .0 .0 .0 .0 .0 .0 .0 .1) (r .0 .0 .0 .0 .0 .0 .1) (r .0 .0 .0 .0 .0 .1) (r .0 .0 .0 .0 .1) (r .0 .0 .0 .1) (r .0 .0 .1) (r .0 .1) (r .1))
+    sym (kind-other _ (c .before .before .if1 .left) (r .0 .0 .0 .0 .0 .0 .0 .0 .1) (r .0 .0 .0 .0 .0 .0 .0 .1) (r .0 .0 .0 .0 .0 .0 .1) (r .0 .0 .0 .0 .0 .1) (r .0 .0 .0 .0 .1) (r .0 .0 .0 .1) (r .0 .0 .1) (r .0 .1) (r .1))
 
 pub kind-of-spec : {M : Type 1} → statement M
 kind-of-spec =
-    tie.close (tie.spec returns shared-slice-read-match returns-2 returns-3 returns-4 returns-5 returns-6 returns-7 returns-8 returns-9 returns-10)
+    tie.close (tie.spec returns shared-slice-read-match returns-2 returns-3 returns-4 returns-5 returns-6 returns-7 returns-8 returns-9 returns-10 returns-11)
