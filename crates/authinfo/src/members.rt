@@ -6,11 +6,15 @@ use json::Separator;
 use json::Step;
 use json::access::first_member;
 use json::access::member_value;
+use json::access::plain_text;
 use json::strings::string_is;
 use json::values::item;
 use json::values::separator;
 ghost use mathlib.Core.Path.{_≡_};
 ghost use mathlib.Core.Bool.{cond};
+ghost use mathlib.Core.List.{List};
+ghost use Prim.Native.Nat.{ℕ};
+ghost use Rattle.text.specs.Text.{same};
 ghost use Rattle.json.specs.Access.{stringIs, memberValue};
 ghost use Rattle.authinfo.specs.Places as spec;
 
@@ -27,8 +31,8 @@ fn noted(line: &[u8], at: usize, name: &[u8], before: Place) -> Place
     before
 }
 
-// The places with those of the member whose name stands at this place.
-fn with_member(line: &[u8], at: usize, found: RulePlaces) -> RulePlaces
+// The same name by name, for a name with an escape or bytes past ASCII.
+fn other_member(line: &[u8], at: usize, found: RulePlaces) -> RulePlaces
     ensures { λ r. ⌜ r ≡ spec.notedAt (now (line .entry)) at found ⌝ }
 {
     let permission = found.permission;
@@ -43,6 +47,45 @@ fn with_member(line: &[u8], at: usize, found: RulePlaces) -> RulePlaces
         retain: noted(line, at, b"retain", retain),
         topic: noted(line, at, b"topic", topic),
     }
+}
+
+// The value of the member at this place, if its name is the one looked for; else the one before.
+fn chosen(line: &[u8], at: usize, is: bool, before: Place) -> Place
+    ensures { λ r. ⌜ r ≡ cond is (memberValue (now (line .entry)) at) before ⌝ }
+{
+    if is {
+        return member_value(line, at);
+    }
+    before
+}
+
+// The places with those of the member at this place, which has this name.
+fn named_member(line: &[u8], at: usize, name: &[u8], found: RulePlaces) -> RulePlaces
+    requires { ⌜ ((wanted : List ℕ) → same (now name) wanted ≡ stringIs (now line) at wanted) ⌝ }
+    ensures { λ r. ⌜ r ≡ spec.notedAt (now (line .entry)) at found ⌝ }
+{
+    let permission = found.permission;
+    let action = found.action;
+    let qos = found.qos;
+    let retain = found.retain;
+    let topic = found.topic;
+    RulePlaces {
+        permission: chosen(line, at, text::same(name, b"permission"), permission),
+        action: chosen(line, at, text::same(name, b"action"), action),
+        qos: chosen(line, at, text::same(name, b"qos"), qos),
+        retain: chosen(line, at, text::same(name, b"retain"), retain),
+        topic: chosen(line, at, text::same(name, b"topic"), topic),
+    }
+}
+
+// The places with those of the member whose name stands at this place. A plain name is found once and read in place.
+fn with_member(line: &[u8], at: usize, found: RulePlaces) -> RulePlaces
+    ensures { λ r. ⌜ r ≡ spec.notedAt (now (line .entry)) at found ⌝ }
+{
+    if let Place::At(end) = plain_text(line, at) {
+        return named_member(line, at, &line[at + 1..end], found);
+    }
+    other_member(line, at, found)
 }
 
 fn no_places() -> RulePlaces
