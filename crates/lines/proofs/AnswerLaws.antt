@@ -29,7 +29,7 @@ use Rattle.lines.proofs.ElementLaws.{element-stands, fields-are, isText
 
 -- ---- the form, by the word
 
-unfoldable formBy : Option (List ℕ) → Form
+unfoldable pub formBy : Option (List ℕ) → Form
 formBy word =
     cond (isText (ascii "connect") word) Connect
     (cond (isText (ascii "subscribe") word) Subscribe
@@ -46,7 +46,7 @@ callAs Disconnected es = disconnectedIn es
 callAs Ended es = endedIn es
 callAs Unknown es = none
 
-form-is : (line : List ℕ) (es : Elements) → lineValue line ≡ some (array es) → formHere line (fieldsHere line .first) ≡ formBy (bind (nth 0 es) asString)
+pub form-is : (line : List ℕ) (es : Elements) → lineValue line ≡ some (array es) → formHere line (fieldsHere line .first) ≡ formBy (bind (nth 0 es) asString)
 unfolding formHere formBy
 form-is line es is =
     λ i.
@@ -83,7 +83,7 @@ array-call es = call-form es (bind (nth 0 es) asString)
 
 -- ---- a line without an array has no word
 
-array-opens : (line : List ℕ) (at : ℕ) {r : Read Json} → valueHere line at ≡ some r → isAt line at 0x5b ≡ true → (es : Elements) × (r .value ≡ array es)
+pub array-opens : (line : List ℕ) (at : ℕ) {r : Read Json} → valueHere line at ≡ some r → isAt line at 0x5b ≡ true → (es : Elements) × (r .value ≡ array es)
 unfolding bracketed readAs
 array-opens line at {r} e o = by (arrayAt (valueAt 7 line) line at) (sym (opens-here false 7 line at o) ∙ e)
   where

@@ -1,16 +1,28 @@
--- Worked examples, evaluated: lines of output of document 01, Marked examples, some numbers in decimal, and an input taken in byte by byte.
--- Assumes nothing.
+-- Worked examples, evaluated: lines of output of document 01, Marked examples, some numbers in decimal, an input taken in byte by byte, and
+-- what is said of a client's questions. Assumes nothing.
 use Prim.Native.Nat.{ℕ}
 use Prim.Native.String.{String}
 use mathlib.Core.Bool.{Bool, true, _&&_}
-use mathlib.Core.List.{List, [], _∷_, _++_}
-use mathlib.Core.Option.{none, some}
+use mathlib.Core.List.{List, [], _∷_, _++_, map}
+use mathlib.Core.Option.{none, some, bind}
 use mathlib.Core.Path.{_≡_, refl}
 use Rattle.text.specs.Ascii.{ascii}
-use Rattle.text.specs.Text.{same}
+use Rattle.text.specs.Text.{same, begins, contains, occurs, replaceFrom, replace}
+use Rattle.topic.specs.Topic.{extendFirst, withByte, levels, isOnly, wildcardFree, validLevels, validFilter, metadata, ends, passes, behind, takes, plainMatch}
+use Rattle.json.specs.Lines.{extendLine, withByte as withLineByte, lines}
+use Rattle.json.specs.Utf8.{between, leadSize, second, tail, sequence, utf8}
+use Rattle.json.specs.Strings.{escape, rawPiece, pieceOf, grown, stringFrom, stringAt}
+use Rattle.json.specs.Json.{isAt, isBlank, blanks, skipBlanks, kindOf, digits, decimal as numberOf, plainNumber, numberAt, wordAt, textAt, readAs, separatorAt, itemsAt, bracketAt, elementAt, nameAt, memberAt, arrayAt, objectAt, valueWith, valueAt, lineValue, longest, longestElement, longestMember}
+use Rattle.json.specs.Access.{count}
+use Rattle.rule.specs.Rule.{named, nth, asText, asNumber, asBool, asArray, member-named}
+use Rattle.rule.specs.Refusals.{number}
+use Rattle.authinfo.specs.ClientRule.{permissionWord, actionWord, textNamed, qosLevel, qosIn, qosValue, qosOf, topicOf, ruleIn, configured, putIf, fillFor, filledTopic, withTopic, filledRule, ruleFrom, readLine}
+use Rattle.authinfo.specs.Decision.{qosAsked, topicAsked, covers, among, qosHits, publishRetain, retainHits, topicHits, hits, withRule, readLines, firstHit, allowance, refusal, byRule, decision, refuse, onText, nameOver, causes, firstFault, ask}
 use Rattle.lines.specs.declared.Word.the-variants.{Done, Kept, Allow, Super, Refuse, Drop, NoDecision}
 use Rattle.lines.specs.declared.Said.{Said}
-use Rattle.lines.specs.Said.{says, refusedAt, malformed}
+use Rattle.lines.specs.Call.{asString, isNull, orNull, having}
+use Rattle.lines.specs.Said.{says, refusedAt, refusedWith, malformed}
+use Rattle.lines.specs.Client.{elementsOf, arrayOf, clientIn, subscribeIn, publishIn, questionBy, questionIn, decisionSaid, replySaid, questionSaid, askedBy, clientSaid}
 use Rattle.lines.specs.declared.RulesTaken.the-variants.{Part as RulesPart, Whole}
 use Rattle.lines.specs.Output.{decimalUpTo, decimal, wordText, lineText, outputLine}
 use Rattle.lines.specs.Input.{taken, kept, rulesTaken, rulesKept}
@@ -70,3 +82,39 @@ pub lines-taken : found (text-of (ascii "[1]" ∷ [] ∷ ascii "[\"ended\",1]" �
     ≡ some (ascii "[1]") ∷ some [] ∷ none ∷ some (ascii "[\"ended\"]") ∷ []
 unfolding find found taken kept text-of
 lines-taken = refl
+
+-- questions of a client with the id `g`, as the first line tells it, with a rule that allows the topic `a` and one that denies `b`
+abbrev rules : List ℕ
+rules =
+    text-of
+    (ascii "{\"permission\":\"allow\",\"action\":\"all\",\"topic\":\"a\"}" ∷ ascii "{\"permission\":\"deny\",\"action\":\"all\",\"topic\":\"b\"}" ∷ [])
+
+abbrev faulty : List ℕ
+faulty = text-of (ascii "{\"permission\":\"allow\",\"action\":\"all\",\"topic\":\"a\"}" ∷ ascii "{}" ∷ [])
+
+abbrev questions : List ((String × List ℕ × String) × Said)
+questions =
+    (("[false,\"g\",null]", rules, "[\"subscribe\",0,\"a\"]"), says Allow 1)
+    ∷ (("[false,\"g\",null]", rules, "[\"subscribe\",0,\"b\"]"), says Refuse 2)
+    ∷ (("[false,\"g\",null]", rules, "[\"subscribe\",0,\"c\"]"), says NoDecision 0)
+    ∷ (("[false,\"g\",\"n\"]", rules, " [\"publish\",0,false,true,\"a\"]"), says Allow 1)
+    ∷ (("[false,\"g\",null]", rules, "[\"publish\",0,false,true,\"b\"]"), says Drop 2)
+    ∷ (("[false,\"g\",null]", rules, "[\"publish\",0,false,false,\"b\"]"), says Refuse 2)
+    -- a superuser is allowed without a rule
+    ∷ (("[true,\"g\",null]", rules, "[\"subscribe\",0,\"b\"]"), says Allow 0)
+    -- rules with a faulty line are refused with it, a superuser's too
+    ∷ (("[false,\"g\",null]", faulty, "[\"subscribe\",0,\"a\"]"), refusedAt 6 2)
+    ∷ (("[true,\"g\",null]", faulty, "[\"subscribe\",0,\"a\"]"), refusedAt 6 2)
+    -- no question: a wrong number of elements, an unknown word, a flag that is no bool, no array; and no client
+    ∷ (("[false,\"g\",null]", faulty, "[\"subscribe\",0]"), refusedAt 5 0)
+    ∷ (("[false,\"g\",null]", faulty, "[\"subscribe\",0,\"a\",0]"), refusedAt 5 0)
+    ∷ (("[false,\"g\",null]", rules, "[\"connect\",0,\"a\"]"), refusedAt 5 0)
+    ∷ (("[false,\"g\",null]", rules, "[\"publish\",0,0,true,\"a\"]"), refusedAt 5 0)
+    ∷ (("[false,\"g\",null]", rules, "{}"), refusedAt 5 0)
+    ∷ (("[false,null,null]", rules, "[\"subscribe\",0,\"a\"]"), refusedAt 5 0)
+    ∷ (("[false,\"g\"]", rules, "[\"subscribe\",0,\"a\"]"), refusedAt 5 0)
+    ∷ []
+
+pub questions-answered : map (λ q. clientSaid (ascii (q .0 .0)) (q .0 .1) (ascii (q .0 .2))) questions ≡ map (λ q. q .1) questions
+unfolding same begins contains occurs replaceFrom replace extendFirst withByte levels isOnly wildcardFree validLevels validFilter metadata ends passes behind takes plainMatch extendLine withLineByte lines between leadSize second tail sequence utf8 escape rawPiece pieceOf grown stringFrom stringAt isAt isBlank blanks skipBlanks kindOf digits numberOf plainNumber numberAt wordAt textAt readAs separatorAt itemsAt bracketAt elementAt nameAt memberAt arrayAt objectAt valueWith valueAt lineValue longest longestElement longestMember count named nth asText asNumber asBool asArray member-named number permissionWord actionWord textNamed qosLevel qosIn qosValue qosOf topicOf ruleIn configured putIf fillFor filledTopic withTopic filledRule ruleFrom readLine qosAsked topicAsked covers among qosHits publishRetain retainHits topicHits hits withRule readLines firstHit allowance refusal byRule decision refuse onText nameOver causes firstFault ask bind asString isNull orNull having says refusedAt refusedWith elementsOf arrayOf clientIn subscribeIn publishIn questionBy questionIn decisionSaid replySaid questionSaid askedBy clientSaid text-of
+questions-answered = refl

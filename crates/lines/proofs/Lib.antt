@@ -6,6 +6,7 @@ pub mod HappeningLaws
 pub mod AskerLaws
 pub mod AskingLaws
 pub mod AnswerLaws
+pub mod ClientLaws
 pub mod DecimalLaws
 pub mod OutputLaws
 pub mod InputLaws

@@ -1,5 +1,5 @@
 -- What a line of `decide` calls for: document 01, Marked examples (Program `decide`).
-use Prim.Native.Nat.{ℕ, suc}
+use Prim.Native.Nat.{ℕ}
 use mathlib.Core.Bool.{Bool, true, false, cond}
 use mathlib.Core.List.{List}
 use mathlib.Core.Option.{Option, none, some, bind, Option·map}
@@ -10,7 +10,7 @@ use Rattle.text.specs.Text.{same}
 use Rattle.json.specs.Json.{Json, null, bool, number, text, array, object, Elements, lineValue}
 use Rattle.json.specs.Access.{count}
 use Rattle.rule.specs.Limits.{lineLimit}
-use Rattle.rule.specs.Rule.{Value, nth, asText, asNumber, asArray}
+use Rattle.rule.specs.Rule.{Value, nth, asText, asNumber}
 use Rattle.rule.specs.Identity.{Client}
 use Rattle.questions.specs.Question as ask
 use Rattle.questions.specs.Question.{Question}
@@ -22,10 +22,11 @@ pub data Call : Type 0 where
   happens : Event → Call
   asks : Question → Call
 
--- a text; `null`, or what stands there
+-- a text
 unfoldable pub asString : Value → Option (List ℕ)
 asString v = Option·map (λ t. t .text) (asText v)
 
+-- "null is absent": `null`, or what stands there
 unfoldable pub isNull : Value → Bool
 isNull v = elim (v .value) [ null ↦ true | bool b ↦ false | number n ↦ false | text t ↦ false | array es ↦ false | object ms ↦ false ]
 
@@ -76,6 +77,7 @@ unfoldable pub isGiven : {A : Type 0} → Option A → Bool
 isGiven none = false
 isGiven (some a) = true
 
+-- "(not for connect) .. except .. connect's protocol"
 unfoldable pub connectIn : Elements → Option Call
 connectIn es =
     having 7 es
@@ -92,7 +94,7 @@ publishIn es =
     having 8 es
     (bind (askerIn es) (λ a. Option·map (λ topic. asks (ask.publish (a .earlier) (a .client) topic true)) (bind (nth 7 es) asString)))
 
--- "Events: word, session, id, name (connected only); `ended` has the session alone"
+-- "Events: word, session, id, name (connected only); `ended` has the session alone"; a name that is null is absent
 unfoldable pub connectedIn : Elements → Option Call
 connectedIn es =
     having 4 es

@@ -1,5 +1,5 @@
--- Input in pieces: how the bytes of a line, and of the rules, are gathered in a buffer (document 01, Marked examples, "standard input is
--- rule lines, an empty line, event lines").
+-- Input in pieces: how the bytes of a line, and of the rules, are gathered in a buffer (document 01, JSON line, "LF ends a line and isn't
+-- counted in its length; the last may lack it"; Marked examples, "standard input is rule lines, an empty line, event lines").
 use Prim.Native.Nat.{ℕ, _+_}
 use mathlib.Core.Bool.{Bool, true, false, _&&_, cond}
 use mathlib.Core.List.{List}

@@ -15,12 +15,12 @@ use Rattle.lines.specs.declared.Said.{Said}
 use Rattle.lines.specs.declared.Put.{Put}
 use Rattle.lines.specs.declared.Put.the-variants.{End, NoRoom}
 
--- a number in decimal, without leading zeros, of at most so many digits
+-- a number in decimal, without leading zeros: its last digits, where it has more than so many
 unfoldable pub decimalUpTo : ℕ → ℕ → List ℕ
 decimalUpTo zero n = []
 decimalUpTo (suc most) n = cond (ltb n 10) ((48 + n) ∷ []) (decimalUpTo most (n / 10) ++ ((48 + n % 10) ∷ []))
 
--- numbers up to 18446744073709551615 have at most 20
+-- numbers up to 18446744073709551615 have at most 20, so that these are all of theirs
 unfoldable pub decimal : ℕ → List ℕ
 decimal n = decimalUpTo 20 n
 
@@ -43,7 +43,7 @@ unfoldable pub lineText : Found → List ℕ
 lineText Absent = []
 lineText (Is n) = blank ++ decimal n
 
--- the line of output for the line of input with this number
+-- "event number, word .., deciding rule from 1, or 0; after error the number": the line of output, its LF behind it
 unfoldable pub outputLine : ℕ → Said → List ℕ
 outputLine n said =
     decimal n ++ (blank ++ (wordText (said .word) ++ (blank ++ (decimal (said .number) ++ (lineText (said .line) ++ (10 ∷ []))))))

@@ -1,24 +1,27 @@
 -- What the functions that read a line answer, by the places of its elements.
 use Prim.Native.Nat.{ℕ}
-use mathlib.Core.Bool.{Bool, true, false, cond}
+use mathlib.Core.Bool.{Bool, true, false, _&&_, not, cond}
 use mathlib.Core.List.{List}
 use mathlib.Core.Option.{Option, none, some}
-use lib.Dec.{leb}
+use lib.Dec.{ltb, leb}
 use lib.ListN.{length}
 use Rattle.text.specs.Ascii.{ascii}
 use Rattle.json.specs.Strings.{Decoded, stringAt}
-use Rattle.json.specs.Json.{skipBlanks, wordAt}
-use Rattle.json.specs.Access.{firstItem, stringIs, literalOf, copied, decodedInto}
+use Rattle.json.specs.Json.{isAt, skipBlanks, wordAt, lineValue}
+use Rattle.json.specs.Access.{firstItem, stringIs, literalOf, copied, decodedInto, isDocument}
 use Rattle.json.specs.declared.Literal.{Literal}
 use Rattle.json.specs.declared.Literal.the-variants.{Null, True, False, Bad}
 use Rattle.json.specs.declared.Place.{Place}
 use Rattle.json.specs.declared.Place.the-variants.{At, Nowhere}
 use Rattle.json.specs.declared.Found.{Found}
 use Rattle.json.specs.declared.Found.the-variants.{Is, Absent}
+use Rattle.json.specs.declared.Truth.{Truth}
+use Rattle.json.specs.declared.Truth.the-variants.{Holds, Unknown}
 use Rattle.json.specs.declared.Copied.{Copied}
 use Rattle.json.specs.declared.Copied.the-variants.{Length, TooLong, NoText}
 use Rattle.rule.specs.Places.{nextPart}
-use Rattle.rule.specs.Members.{numberFrom}
+use Rattle.rule.specs.Limits.{lineLimit}
+use Rattle.rule.specs.Members.{numberFrom, truthFrom}
 use Rattle.rule.specs.declared.Given.{Given}
 use Rattle.rule.specs.declared.Given.the-variants.{Absent as NotGiven, Length as GivenTo}
 use Rattle.rule.specs.declared.Protocol.{Protocol}
@@ -31,6 +34,8 @@ use Rattle.lines.specs.declared.GivenRead.the-variants.{Is as GivenIs, B
 use Rattle.lines.specs.declared.ProtocolRead.{ProtocolRead}
 use Rattle.lines.specs.declared.ProtocolRead.the-variants.{Is as ReadProtocol, Bad as BadProtocol}
 use Rattle.lines.specs.declared.Asker.{Asker}
+use Rattle.lines.specs.declared.HeaderRead.{HeaderRead}
+use Rattle.lines.specs.declared.HeaderRead.the-variants.{Client as ClientIs, Bad as BadHeader}
 use Rattle.lines.specs.declared.AskerRead.{AskerRead}
 use Rattle.lines.specs.declared.AskerRead.the-variants.{Asker as AskerIs, Bad as BadAsker}
 
@@ -125,3 +130,29 @@ askerHere ids names passwords addresses line f =
     (givenFrom passwords line (f .fifth))
     (givenFrom addresses line (f .sixth))
     (protocolFrom line (f .seventh))
+
+-- a line of at most 2,048 bytes that is a document and begins with a bracket, so that it is an array
+unfoldable pub isArrayLine : List ℕ → Bool
+isArrayLine line = not (ltb lineLimit (length line)) && (isDocument (lineValue line) && isAt line (skipBlanks line 0) 0x5b)
+
+-- the client of a first line, if all that is read of it is right and nothing stands behind it
+unfoldable pub nothingAt : Place → HeaderRead → HeaderRead
+nothingAt Nowhere h = h
+nothingAt (At p) h = BadHeader
+
+unfoldable pub withName : Bool → ℕ → GivenRead → HeaderRead
+withName superuser id BadGiven = BadHeader
+withName superuser id (GivenIs name) = ClientIs superuser id name
+
+unfoldable pub withTruth : Truth → Copied → GivenRead → HeaderRead
+withTruth Unknown id name = BadHeader
+withTruth (Holds superuser) (Length n) name = withName superuser n name
+withTruth (Holds superuser) TooLong name = BadHeader
+withTruth (Holds superuser) NoText name = BadHeader
+
+-- with buffers of so many bytes for the id and the name
+unfoldable pub headerHere : ℕ → ℕ → List ℕ → Fields → HeaderRead
+headerHere ids names line f =
+    nothingAt
+    (f .fourth)
+    (withTruth (truthFrom line (f .first)) (copied ids (stringFrom line (f .second))) (givenFrom names line (f .third)))

@@ -18,7 +18,7 @@ use Rattle.lines.specs.declared.Said.{Said}
 unfoldable pub says : Word → ℕ → Said
 says word n = record { word = word; number = n; line = Absent }
 
--- "Refused rules print only `0 error`, the number and the line, 0 if none"
+-- an error with its number and its line: "Refused rules print only `0 error`, the number and the line, 0 if none"
 unfoldable pub refusedAt : ℕ → ℕ → Said
 refusedAt number line = record { word = Error; number = number; line = Is line }
 
@@ -63,7 +63,7 @@ callDone none s = s
 callDone (some (happens e)) s = after e s
 callDone (some (asks q)) s = s
 
--- what is said of a line, and the store behind it
+-- what is said of a line, and the store after it
 unfoldable pub lineSaid : List ℕ → List ℕ → Said
 lineSaid line s = callSaid (callOf line) s
 

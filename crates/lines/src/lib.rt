@@ -2,6 +2,7 @@
 // `output` writes that as a line, `input` gathers lines from bytes (document 01, Marked examples).
 pub mod answer;
 mod asking;
+pub mod client;
 mod elements;
 mod happening;
 pub mod input;
@@ -83,6 +84,12 @@ pub struct Asker {
 
 pub enum AskerRead {
     Asker(Asker),
+    Bad,
+}
+
+// The client of a first line: the superuser flag, and the lengths of the texts in their buffers.
+pub enum HeaderRead {
+    Client(bool, usize, Given),
     Bad,
 }
 

@@ -1,4 +1,5 @@
 // The programs on two descriptors: bytes to lines, a line to its answer, answers to buffered output. Nothing is decided here; `lines` does.
+pub mod clients;
 pub mod deciding;
 mod writing;
 
