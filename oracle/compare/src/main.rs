@@ -3,20 +3,22 @@
 //! Compares the port's exported functions with the original Rust: V, whether a
 //! text is a valid filter; T, the tree match; P, the plain match. First all
 //! texts over `a $ + # /`, for T and P up to the length, for V three longer;
-//! then random ones for a sixth of SECONDS. With serde_json: J, whether a line
+//! then random ones for a seventh of SECONDS. With serde_json: J, whether a line
 //! is a document; L, whether its strings are within a limit. First all short
-//! lines, then random ones for a sixth. With the plugin: R, whether a line is
+//! lines, then random ones for a seventh. With the plugin: R, whether a line is
 //! a rule; I, whether it means a client. First all combinations of a rule's parts,
-//! then random ones for a sixth. And O, opening a store for a rule text; Q, the
-//! three questions on it. First all short lists, then random ones for a sixth.
+//! then random ones for a seventh. And O, opening a store for a rule text; Q, the
+//! three questions on it. First all short lists, then random ones for a seventh.
 //! And E, histories: events on a store, and the three questions in between. First
-//! all short ones, then random ones for a sixth. With acl.rs: C, the per-client
-//! questions, first of all rules of a few parts, then random ones for a sixth; X,
-//! expiry, ten million times.
+//! all short ones, then random ones for a seventh. With acl.rs: C, the per-client
+//! questions, first of all rules of a few parts, then random ones for a seventh; X,
+//! expiry, ten million times. And W, whole inputs of the program `decide`: first those
+//! of the program `replays` and some that are always asked, then random ones for a seventh.
 //! With --only the phases that name the kind. Exit status 1 if anything differs.
 
 mod clients;
 mod histories;
+mod inputs;
 mod phases;
 mod store;
 mod tally;
@@ -85,7 +87,9 @@ fn main() -> ExitCode {
     phase("O and Q, all lists of up to two rules of a few parts", &mut all, &phases::short_questions);
     phase("E, all histories of up to three events of a few", &mut all, &phases::short_histories);
     phase("C, all rules of a few parts", &mut all, &clients::short);
-    let part = || Instant::now() + Duration::from_secs(seconds) / 6;
+    phase("W, the inputs of replays", &mut all, &inputs::replayed);
+    phase("W, inputs at limits, cut and in two pieces", &mut all, &inputs::always);
+    let part = || Instant::now() + Duration::from_secs(seconds) / 7;
     phase(&format!("V, T and P, random, seed {seed}"), &mut all, &|| phases::random(seed, part()));
     phase(&format!("J and L, random, seed {seed}"), &mut all, &|| phases::random_lines(seed, part()));
     phase(&format!("R and I, random, seed {seed}"), &mut all, &|| phases::random_rules(seed, part()));
@@ -93,6 +97,7 @@ fn main() -> ExitCode {
     phase(&format!("E, random, seed {seed}"), &mut all, &|| phases::random_histories(seed, part()));
     phase(&format!("C, random, seed {seed}"), &mut all, &|| clients::random(seed, part()));
     phase(&format!("X, random, seed {seed}"), &mut all, &|| clients::expiries(seed));
+    phase(&format!("W, random, seed {seed}"), &mut all, &|| inputs::random(seed, part()));
     println!("\n{all}");
     if all.differences() == 0 {
         ExitCode::SUCCESS

@@ -6,6 +6,7 @@ use oracle::cases::{word, Case, Kind};
 use oracle::clients;
 use oracle::decide::Kind as QuestionKind;
 use oracle::events::{Event, History, Step};
+use oracle::inputs::{Judged as JudgedInput, Said};
 use oracle::json::{judge, Judged};
 use oracle::questions::{self, List, Reply};
 use oracle::rules::{self, Client, Identity, Verdict};
@@ -15,7 +16,7 @@ use crate::histories::Judged as JudgedStep;
 /// The rows of the table: kind and the Rust's answer. Intended are answers no to
 /// a line that serde_json reads, or the plugin takes for a rule, and document 01
 /// doesn't; and an address that only document 01 can have.
-const ROWS: [(&str, &str); 89] = [
+const ROWS: [(&str, &str); 107] = [
     ("V", "yes"),
     ("V", "no"),
     ("T", "yes"),
@@ -105,18 +106,41 @@ const ROWS: [(&str, &str); 89] = [
     ("X", "expired"),
     ("X", "valid"),
     ("X", "intended: 2"),
+    ("W", "input, as it comes"),
+    ("W", "input, in pieces"),
+    ("W", "rules: error 1"),
+    ("W", "rules: error 5"),
+    ("W", "rules: error 6"),
+    ("W", "line: done"),
+    ("W", "line: kept"),
+    ("W", "line: allow"),
+    ("W", "line: super"),
+    ("W", "line: refuse"),
+    ("W", "line: drop"),
+    ("W", "line: error 1"),
+    ("W", "line: error 2"),
+    ("W", "line: error 5"),
+    ("W", "line: error 7"),
+    ("W", "line: error 8"),
+    ("W", "line: error 9"),
+    ("W", "line: error 10"),
 ];
 
 /// Where the rows of questions begin, of Q and of E, and those of events.
 const QUESTIONS: usize = 27;
 const EVENTS: usize = 43;
 const IN_BETWEEN: usize = 55;
+/// Those of inputs, and of what is said of their lines.
+const INPUTS: usize = 89;
+const SAID: usize = 94;
+const WORDS: [&str; 6] = ["done", "kept", "allow", "super", "refuse", "drop"];
+const ERRORS: [u32; 7] = [1, 2, 5, 7, 8, 9, 10];
 
 /// The first row of C, and of X.
 const CLIENTS: usize = 71;
 const EXPIRY: usize = CLIENTS + 15;
 
-/// So many differences of a row of Q or E are reduced, on each processor: it takes its time.
+/// So many differences of a row of Q, E or W are reduced, on each processor: it takes its time.
 const REDUCED: u64 = 20;
 
 /// A case that differs.
@@ -134,6 +158,8 @@ enum Asked {
     History(History, String),
     Client(clients::Asked, u64),
     Times(clients::Times, u64),
+    /// With the sizes of its pieces, and what is said of it.
+    Input(Vec<u8>, Vec<usize>, String),
 }
 
 impl Asked {
@@ -150,6 +176,7 @@ impl Asked {
             Asked::History(history, said) => (history.size(), said.as_bytes(), &[]),
             Asked::Client(asked, _) => (asked.size(), &asked.rules, asked.topic.as_bytes()),
             Asked::Times(..) => (0, &[], &[]),
+            Asked::Input(input, ..) => (input.len(), input, &[]),
         }
     }
 }
@@ -318,6 +345,28 @@ impl Tally {
         }
     }
 
+    /// Counts one input, and its lines. A difference is the input's.
+    pub fn count_input(
+        &mut self,
+        judged: &JudgedInput,
+        in_pieces: bool,
+        differs: bool,
+        reduce: impl FnOnce() -> (Vec<u8>, Vec<usize>, String),
+    ) {
+        let row = INPUTS + in_pieces as usize;
+        self.cases[row] += 1;
+        match judged {
+            JudgedInput::Refused(number, _) => self.cases[INPUTS + 2 + place(&[1, 5, 6], number)] += 1,
+            JudgedInput::Lines(said) => said.iter().for_each(|said| self.cases[SAID + said_row(said)] += 1),
+        }
+        if differs && self.differences[row] < REDUCED {
+            let (input, pieces, said) = reduce();
+            self.differ(row, Asked::Input(input, pieces, said));
+        } else if differs {
+            self.differences[row] += 1;
+        }
+    }
+
     /// Counts one expiry of X.
     pub fn count_expiry(&mut self, times: &clients::Times, rust: Option<bool>, port: u64) {
         let row = EXPIRY + rust.map_or(2, |expired| !expired as usize);
@@ -385,6 +434,18 @@ fn done_row(event: &Event) -> usize {
     }
 }
 
+fn place<T: PartialEq>(all: &[T], one: &T) -> usize {
+    all.iter().position(|other| other == one).expect("a word or number of document 01")
+}
+
+/// The row of what is said of a line of `decide`, among those.
+fn said_row(said: &Said) -> usize {
+    match said {
+        Said::Word(word, _) => place(&WORDS, word),
+        Said::Error(number) => WORDS.len() + place(&ERRORS, number),
+    }
+}
+
 /// The table, then each smallest difference in full.
 impl fmt::Display for Tally {
     fn fmt(&self, f: &mut fmt::Formatter<'_>) -> fmt::Result {
@@ -447,6 +508,10 @@ impl fmt::Display for Asked {
                     f,
                     "\ndifference, X: {times:?}: the judge answers {number}, the port {port}"
                 );
+            }
+            Asked::Input(input, pieces, said) => {
+                writeln!(f, "\ndifference, W: input b\"{}\", pieces {pieces:?}", input.escape_ascii())?;
+                return writeln!(f, "  {said}");
             }
         };
         writeln!(f, "  the judge answers {}, the port {}", word(rust), word(!rust))

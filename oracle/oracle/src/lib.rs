@@ -7,6 +7,7 @@ pub mod clients;
 pub mod decide;
 pub mod events;
 pub mod generate;
+pub mod inputs;
 pub mod json;
 pub mod matching;
 pub mod perclient;

@@ -46,7 +46,7 @@ pub fn read(line: &[u8]) -> Result<Event, u32> {
 
 fn question(kind: Kind, a: &[Value]) -> Result<Event, u32> {
     let connect = kind == Kind::Connect;
-    let earlier = number(&a[1])?;
+    let earlier = if a[1].is_null() { 0 } else { number(&a[1])? };
     let id = text(&a[2])?;
     let (name, password, address) = (optional(&a[3])?, optional(&a[4])?, optional(&a[5])?);
     let protocol = match &a[6] {

@@ -12,7 +12,7 @@ use rmqtt::types::Id;
 use rmqtt_acl::exposed::Rule;
 use serde_json::{json, Value};
 
-use event::Event;
+pub use event::{read, Event as LineEvent};
 pub use instance::{Attrs, Instance, Rows};
 pub use question::{Answer, Kind, Question};
 
@@ -148,7 +148,8 @@ pub async fn notes(attrs: &Attrs) -> Option<Vec<String>> {
     attrs.read().await.get::<Vec<String>>(NOTES).cloned()
 }
 
-fn word(kind: Kind, answer: Answer) -> &'static str {
+/// The word of `decide` for an answer that isn't kept.
+pub fn word(kind: Kind, answer: Answer) -> &'static str {
     match (kind, answer) {
         (_, Answer::Allow) => "allow",
         (Kind::Connect, Answer::Super) => "super",
@@ -161,7 +162,7 @@ fn word(kind: Kind, answer: Answer) -> &'static str {
 }
 
 /// LF ends a line; the last may lack it; the empty text is zero lines.
-fn lines(text: &[u8]) -> Vec<&[u8]> {
+pub fn lines(text: &[u8]) -> Vec<&[u8]> {
     let mut lines: Vec<&[u8]> = text.split(|b| *b == b'\n').collect();
     if lines.last().is_some_and(|l| l.is_empty()) {
         lines.pop();
@@ -204,15 +205,15 @@ pub async fn run(input: &[u8], options: Options) -> String {
 }
 
 async fn step(machine: &mut Machine, line: &[u8]) -> (&'static str, usize) {
-    match event::read(line) {
+    match read(line) {
         Err(number) => return ("error", number as usize),
-        Ok(Event::Ask(q)) => {
+        Ok(LineEvent::Ask(q)) => {
             let Decided { answer, rule } = machine.ask(&q).await;
             return rule.map_or(("kept", 0), |rule| (word(q.kind, answer), rule));
         }
-        Ok(Event::Connected(session, id)) => machine.connected(session, &id).await,
-        Ok(Event::Disconnected(session, id)) => machine.disconnected(session, &id).await,
-        Ok(Event::Ended(session)) => machine.ended(session),
+        Ok(LineEvent::Connected(session, id)) => machine.connected(session, &id).await,
+        Ok(LineEvent::Disconnected(session, id)) => machine.disconnected(session, &id).await,
+        Ok(LineEvent::Ended(session)) => machine.ended(session),
     }
     ("done", 0)
 }

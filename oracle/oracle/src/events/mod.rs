@@ -9,7 +9,7 @@ use std::fmt;
 use rmqtt::types::{ClientId, Id, UserName};
 use serde_json::Value;
 
-use crate::decide::{notes, Attrs, Instance, Machine, Rows};
+use crate::decide::{notes, Attrs, Decided, Instance, Machine, Question, Rows};
 use crate::generate::LIMIT;
 use crate::questions::{Asked, List, Reply, Runtime};
 use crate::rules::Lent;
@@ -19,6 +19,18 @@ pub enum Event {
     Connected { session: u64, id: String, name: Lent<String> },
     Disconnected { session: u64, id: String },
     Ended { session: u64 },
+}
+
+impl Event {
+    pub fn connected(session: u64, id: &Id) -> Event {
+        let name = id.username.as_ref().map(|name| name.to_string());
+        let name = Lent { given: name.is_some(), value: name.unwrap_or_default() };
+        Event::Connected { session, id: id.client_id.to_string(), name }
+    }
+
+    pub fn disconnected(session: u64, id: &Id) -> Event {
+        Event::Disconnected { session, id: id.client_id.to_string() }
+    }
 }
 
 #[derive(Clone, Debug)]
@@ -232,6 +244,10 @@ impl Judge {
             assert_eq!(full.eqs, eqs, "the full list holds the static eqs and the filled ones");
         }
         Tables::told(&full, &filled, &self.machine.notes().await)
+    }
+
+    pub fn decide(&self, question: &Question, runtime: &Runtime) -> Decided {
+        runtime.block_on(self.machine.ask(question))
     }
 
     pub fn ask(&self, asked: &Asked, runtime: &Runtime) -> Reply {
