@@ -90,26 +90,32 @@ fn told(judged: &Judged, port: &[u8]) -> String {
     }
 }
 
-/// The input without the lines that its difference doesn't need, in one piece where that differs too.
+/// The input without the lines that its difference doesn't need, halves first, then less at a time; in one
+/// piece where that differs too.
 fn reduced(input: &[u8], pieces: &[usize], runtime: &Runtime) -> (Vec<u8>, Vec<usize>, String) {
     let (judged, port) = both(input, &[], runtime);
     if !differs(&judged, &port) {
         let (judged, port) = both(input, pieces, runtime);
         return (input.into(), pieces.into(), told(&judged, &port));
     }
-    let (mut input, mut said) = (input.to_vec(), told(&judged, &port));
-    let mut at = 0;
-    while let Some(line) = input.split_inclusive(|b| *b == b'\n').nth(at) {
-        let begin: usize = input.split_inclusive(|b| *b == b'\n').take(at).map(|line| line.len()).sum();
-        let fewer = [&input[..begin], &input[begin + line.len()..]].concat();
-        let (judged, port) = both(&fewer, &[], runtime);
-        if differs(&judged, &port) {
-            (input, said) = (fewer, told(&judged, &port));
-        } else {
-            at += 1;
+    let (mut lines, mut said) =
+        (input.split_inclusive(|b| *b == b'\n').collect::<Vec<_>>(), told(&judged, &port));
+    let mut some = lines.len().div_ceil(2);
+    while some > 0 {
+        let mut at = 0;
+        while at < lines.len() {
+            let mut fewer = lines.clone();
+            fewer.drain(at..fewer.len().min(at + some));
+            let (judged, port) = both(&fewer.concat(), &[], runtime);
+            if differs(&judged, &port) {
+                (lines, said) = (fewer, told(&judged, &port));
+            } else {
+                at += some;
+            }
         }
+        some /= 2;
     }
-    (input, Vec::new(), said)
+    (lines.concat(), Vec::new(), said)
 }
 
 fn compare(input: &[u8], pieces: &[usize], runtime: &Runtime, tally: &mut Tally) {
