@@ -7,7 +7,7 @@ use std::os::fd::{FromRawFd, OwnedFd};
 use std::path::Path;
 use std::process::{Command, Stdio};
 use std::thread;
-use std::time::Instant;
+use std::time::{Duration, Instant};
 
 use oracle::generate::Random;
 use oracle::inputs::{fixed, generate, judge, Judged};
@@ -17,6 +17,9 @@ use oracle::runtime;
 use crate::tally::Tally;
 
 const ROOT: &str = concat!(env!("CARGO_MANIFEST_DIR"), "/../..");
+
+/// So long an input is made smaller.
+const REDUCING: Duration = Duration::from_secs(10);
 
 /// Another program with DECIDE=PATH, as one with a fault that a comparison should find.
 fn program() -> String {
@@ -100,10 +103,11 @@ fn reduced(input: &[u8], pieces: &[usize], runtime: &Runtime) -> (Vec<u8>, Vec<u
     }
     let (mut lines, mut said) =
         (input.split_inclusive(|b| *b == b'\n').collect::<Vec<_>>(), told(&judged, &port));
+    let until = Instant::now() + REDUCING;
     let mut some = lines.len().div_ceil(2);
     while some > 0 {
         let mut at = 0;
-        while at < lines.len() {
+        while at < lines.len() && Instant::now() < until {
             let mut fewer = lines.clone();
             fewer.drain(at..fewer.len().min(at + some));
             let (judged, port) = both(&fewer.concat(), &[], runtime);
