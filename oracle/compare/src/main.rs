@@ -99,6 +99,7 @@ fn main() -> ExitCode {
     phase(&format!("X, random, seed {seed}"), &mut all, &|| clients::expiries(seed));
     phase(&format!("W, random, seed {seed}"), &mut all, &|| inputs::random(seed, part()));
     println!("\n{all}");
+    all.covered().into_iter().for_each(|covered| println!("{covered}"));
     if all.differences() == 0 {
         ExitCode::SUCCESS
     } else {

@@ -1,6 +1,7 @@
 //! How many cases of each kind and answer were compared, and what differs.
 
 use std::fmt;
+use std::ops::Range;
 
 use oracle::cases::{word, Case, Kind};
 use oracle::clients;
@@ -397,6 +398,25 @@ impl Tally {
         for (row, asked) in other.smallest.into_iter().enumerate() {
             asked.into_iter().for_each(|asked| self.keep(row, asked));
         }
+    }
+
+    /// What W has covered, if it was asked.
+    pub fn covered(&self) -> Option<String> {
+        let sum = |rows: Range<usize>| grouped(self.cases[rows].iter().sum());
+        let met = |row: &usize| self.cases[*row] > 0;
+        let (words, errors) = (SAID..SAID + WORDS.len(), SAID + WORDS.len()..ROWS.len());
+        met(&INPUTS).then(|| {
+            format!(
+                "W: {} inputs, of them {} with refused rules; {} lines; {} of {} words, {} of {} numbers of errors",
+                sum(INPUTS..INPUTS + 2),
+                sum(INPUTS + 2..SAID),
+                sum(SAID..ROWS.len()),
+                words.filter(met).count(),
+                WORDS.len(),
+                errors.filter(met).count(),
+                ERRORS.len()
+            )
+        })
     }
 
     pub fn total(&self) -> u64 {
