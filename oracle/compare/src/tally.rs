@@ -17,7 +17,7 @@ use crate::histories::Judged as JudgedStep;
 /// The rows of the table: kind and the Rust's answer. Intended are answers no to
 /// a line that serde_json reads, or the plugin takes for a rule, and document 01
 /// doesn't; and an address that only document 01 can have.
-const ROWS: [(&str, &str); 107] = [
+const ROWS: [(&str, &str); 110] = [
     ("V", "yes"),
     ("V", "no"),
     ("T", "yes"),
@@ -125,6 +125,9 @@ const ROWS: [(&str, &str); 107] = [
     ("W", "line: error 8"),
     ("W", "line: error 9"),
     ("W", "line: error 10"),
+    ("W", "intended: 5, length"),
+    ("W", "intended: 5, numbers"),
+    ("W", "intended: 5, depth"),
 ];
 
 /// Where the rows of questions begin, of Q and of E, and those of events.
@@ -404,10 +407,11 @@ impl Tally {
     pub fn covered(&self) -> Option<String> {
         let sum = |rows: Range<usize>| grouped(self.cases[rows].iter().sum());
         let met = |row: &usize| self.cases[*row] > 0;
-        let (words, errors) = (SAID..SAID + WORDS.len(), SAID + WORDS.len()..ROWS.len());
+        let errors = SAID + WORDS.len();
+        let (words, errors) = (SAID..errors, errors..errors + ERRORS.len());
         met(&INPUTS).then(|| {
             format!(
-                "W: {} inputs, of them {} with refused rules; {} lines; {} of {} words, {} of {} numbers of errors",
+                "W: {} inputs, {} with refused rules; {} lines; {} of {} words, {} of {} errors",
                 sum(INPUTS..INPUTS + 2),
                 sum(INPUTS + 2..SAID),
                 sum(SAID..ROWS.len()),
@@ -463,6 +467,7 @@ fn said_row(said: &Said) -> usize {
     match said {
         Said::Word(word, _) => place(&WORDS, word),
         Said::Error(number) => WORDS.len() + place(&ERRORS, number),
+        Said::Beyond(why) => WORDS.len() + ERRORS.len() + *why as usize,
     }
 }
 

@@ -19,16 +19,16 @@ const PIECE: usize = 4_096;
 
 #[rustfmt::skip]
 const WORDS: &[&str] = &[
-    "connect", "subscribe", "publish", "connected", "disconnected", "ended", "Connect", "PUBLISH", "publish ", "",
-    "ende", "endeds", "connecte", "unsubscribe", "null", "\u{0}", "con\u{0}nect", "publi\u{17f}h",
+    "connect", "subscribe", "publish", "connected", "disconnected", "ended", "Connect", "PUBLISH", "publish ",
+    "", "ende", "endeds", "connecte", "unsubscribe", "null", "\u{0}", "con\u{0}nect", "publi\u{17f}h",
 ];
 /// Of other types, out of range, too deep, not document 01's JSON; no value at all.
 #[rustfmt::skip]
 const VALUES: &[&str] = &[
     "null", "true", "false", "0", "1", "2", "3", "4", "5", "7", "255", "256", "257", "260", "65537", "4294967296",
     "4294967297", "18446744073709551615", "18446744073709551616", "-0", "-1", "1.0", "1e0", "00", "01", "\"\"",
-    "\"0\"", "\"a\"", "\"a/b\"", "[]", "{}", "[1]", "[\"a\"]", "{\"eq\":\"a\"}", "[[[[[[[]]]]]]]", "[[[[[[[[]]]]]]]]",
-    "{\"a\":{\"a\":{\"a\":{\"a\":{\"a\":{\"a\":{\"a\":0}}}}}}}", "{\"a\":{\"a\":{\"a\":{\"a\":{\"a\":{\"a\":{\"a\":[]}}}}}}}",
+    "\"0\"", "\"a\"", "\"a/b\"", "[]", "{}", "[1]", "[\"a\"]", "{\"eq\":\"a\"}",
+    "[[[[[[[]]]]]]]", "[[[[[[[[]]]]]]]]", "[[[[[{\"a\":{\"a\":0}}]]]]]", "[[[[[{\"a\":{\"a\":[]}}]]]]]",
     "\"\\ud800\"", "\"\\udc00\\ud800\"", "\"\t\"", "\"\\x\"", "nul", "", "\u{feff}0",
 ];
 

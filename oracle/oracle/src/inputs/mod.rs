@@ -16,6 +16,7 @@ use crate::rules;
 /// "R 2,048, F 64, E 32, N 64".
 const ROOM: Room = Room { bytes: 2_048, filters: 64, eqs: 32, notes: 64 };
 const RULES: usize = 256;
+const MALFORMED: u32 = 5;
 
 /// What is said of a line, or of the rules.
 #[derive(Clone, Copy, Debug, PartialEq, Eq)]
@@ -23,6 +24,15 @@ pub enum Said {
     /// The word, and the deciding rule from 1, or 0.
     Word(&'static str, usize),
     Error(u32),
+    /// Error 5 of a line that is too long, or that serde_json reads and document 01 doesn't.
+    Beyond(Beyond),
+}
+
+#[derive(Clone, Copy, Debug, PartialEq, Eq)]
+pub enum Beyond {
+    Length,
+    Numbers,
+    Depth,
 }
 
 /// What is right for an input.
@@ -46,6 +56,7 @@ impl Judged {
             match said {
                 Said::Word(word, rule) => writeln!(out, "{} {word} {rule}", i + 1),
                 Said::Error(number) => writeln!(out, "{} error {number}", i + 1),
+                Said::Beyond(_) => writeln!(out, "{} error {MALFORMED}", i + 1),
             }
             .expect("a String");
         }
@@ -84,8 +95,12 @@ pub fn judge(input: &[u8], runtime: &Runtime) -> Judged {
 
 /// What is said of one line: 5 where it is no line of document 01's JSON, then what `read` refuses.
 fn said(judge: &mut Judge, line: &[u8], runtime: &Runtime) -> Said {
-    if !json::judge(line).is_document() {
-        return Said::Error(5);
+    match json::judge(line) {
+        _ if line.len() > rules::LINE => return Said::Beyond(Beyond::Length),
+        json::Judged::Refused => return Said::Error(MALFORMED),
+        json::Judged::Number => return Said::Beyond(Beyond::Numbers),
+        json::Judged::Deep => return Said::Beyond(Beyond::Depth),
+        json::Judged::Document { .. } => (),
     }
     let event = match read(line) {
         Err(number) => return Said::Error(number),
