@@ -109,7 +109,7 @@ fn configured(text: &[u8], id: &[u8], name: Given, names: &[u8], topic: &[u8]) -
 }
 
 // The topic whose string stands at this place of the line. A plain one is read in place.
-pub fn topic_at(
+pub(crate) fn topic_at(
     line: &[u8],
     at: usize,
     id: &[u8],

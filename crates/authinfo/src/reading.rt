@@ -215,7 +215,7 @@ fn rule_says(
 }
 
 // What the line's rule says, or the first refusal in document 01's order.
-pub fn line_says(
+pub(crate) fn line_says(
     line: &[u8],
     asked: Asked,
     id: &[u8],

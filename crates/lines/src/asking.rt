@@ -155,7 +155,7 @@ fn asker_at(
 }
 
 // A connect line.
-pub fn ask_connect(store: &[u8], line: &[u8], f: Fields) -> Said
+pub(crate) fn ask_connect(store: &[u8], line: &[u8], f: Fields) -> Said
     requires { ⌜ length (now line) ≤ lineLimit ⌝ }
     ensures { λ r. ⌜ ((es : Elements) → lineValue (now (line .entry)) ≡ some (array es) → f ≡ spec.fieldsHere (now (line .entry)) → r ≡ said.callSaid (call.connectIn es) (now (store .entry))) ⌝ }
 {
@@ -290,7 +290,7 @@ fn ask_topic(store: &[u8], publishing: bool, line: &[u8], f: Fields) -> Said
 }
 
 // A subscribe line.
-pub fn ask_subscribe(store: &[u8], line: &[u8], f: Fields) -> Said
+pub(crate) fn ask_subscribe(store: &[u8], line: &[u8], f: Fields) -> Said
     requires { ⌜ length (now line) ≤ lineLimit ⌝ }
     ensures { λ r. ⌜ ((es : Elements) → lineValue (now (line .entry)) ≡ some (array es) → f ≡ spec.fieldsHere (now (line .entry)) → r ≡ said.callSaid (call.subscribeIn es) (now (store .entry))) ⌝ }
 {
@@ -298,7 +298,7 @@ pub fn ask_subscribe(store: &[u8], line: &[u8], f: Fields) -> Said
 }
 
 // A publish line.
-pub fn ask_publish(store: &[u8], line: &[u8], f: Fields) -> Said
+pub(crate) fn ask_publish(store: &[u8], line: &[u8], f: Fields) -> Said
     requires { ⌜ length (now line) ≤ lineLimit ⌝ }
     ensures { λ r. ⌜ ((es : Elements) → lineValue (now (line .entry)) ≡ some (array es) → f ≡ spec.fieldsHere (now (line .entry)) → r ≡ said.callSaid (call.publishIn es) (now (store .entry))) ⌝ }
 {

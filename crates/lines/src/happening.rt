@@ -38,7 +38,7 @@ fn event_said(answer: EventAnswer) -> Said
 }
 
 // A connected line.
-pub fn on_connected(store: &mut [u8], line: &[u8], f: Fields) -> Said
+pub(crate) fn on_connected(store: &mut [u8], line: &[u8], f: Fields) -> Said
     requires { ⌜ length (now line) ≤ lineLimit ⌝ }
     ensures { λ r. ⌜ ((es : Elements) → lineValue (now (line .entry)) ≡ some (array es) → f ≡ spec.fieldsHere (now (line .entry)) → r ≡ said.callSaid (call.connectedIn es) (now (store .entry))) ⌝ }
     ensures { λ r. ⌜ ((es : Elements) → lineValue (now (line .entry)) ≡ some (array es) → f ≡ spec.fieldsHere (now (line .entry)) → now (store .exit) ≡ said.callDone (call.connectedIn es) (now (store .entry))) ⌝ }
@@ -65,7 +65,7 @@ pub fn on_connected(store: &mut [u8], line: &[u8], f: Fields) -> Said
 }
 
 // A disconnected line.
-pub fn on_disconnected(store: &mut [u8], line: &[u8], f: Fields) -> Said
+pub(crate) fn on_disconnected(store: &mut [u8], line: &[u8], f: Fields) -> Said
     requires { ⌜ length (now line) ≤ lineLimit ⌝ }
     ensures { λ r. ⌜ ((es : Elements) → lineValue (now (line .entry)) ≡ some (array es) → f ≡ spec.fieldsHere (now (line .entry)) → r ≡ said.callSaid (call.disconnectedIn es) (now (store .entry))) ⌝ }
     ensures { λ r. ⌜ ((es : Elements) → lineValue (now (line .entry)) ≡ some (array es) → f ≡ spec.fieldsHere (now (line .entry)) → now (store .exit) ≡ said.callDone (call.disconnectedIn es) (now (store .entry))) ⌝ }
@@ -87,7 +87,7 @@ pub fn on_disconnected(store: &mut [u8], line: &[u8], f: Fields) -> Said
 }
 
 // A line of a session's end.
-pub fn on_ended(store: &mut [u8], line: &[u8], f: Fields) -> Said
+pub(crate) fn on_ended(store: &mut [u8], line: &[u8], f: Fields) -> Said
     requires { ⌜ length (now line) ≤ lineLimit ⌝ }
     ensures { λ r. ⌜ ((es : Elements) → lineValue (now (line .entry)) ≡ some (array es) → f ≡ spec.fieldsHere (now (line .entry)) → r ≡ said.callSaid (call.endedIn es) (now (store .entry))) ⌝ }
     ensures { λ r. ⌜ ((es : Elements) → lineValue (now (line .entry)) ≡ some (array es) → f ≡ spec.fieldsHere (now (line .entry)) → now (store .exit) ≡ said.callDone (call.endedIn es) (now (store .entry))) ⌝ }
