@@ -1,0 +1,349 @@
+/* Access rules of an MQTT broker, for C: the functions of target/staticlib/libffi.a (`rt staticlib ffi`, x86-64).
+
+   What the functions answer is proved for any bytes and any numbers (crates/ffi); this header is tested, not proved. Its sentences
+   are those of the specification, document 01: T is the plugin's tree match, P the per-client rules' plain match.
+
+   Memory. All of it is the caller's. A text, and a store, crosses as its address and its length in bytes, without a zero byte at the
+   end. Nothing is kept after a call: no heap, no state between calls, no threads. A text is only read; a store is written by acl_open
+   and by the three events, and by nothing else. Calls that only read a store may run at the same time; one that writes it runs alone.
+
+   What the caller owes, since no proof reaches it:
+   - an address from which as many bytes as the length says can be read (a store for acl_open and events: written). The length is at
+     most PTRDIFF_MAX. Where it is 0 the address may be any but NULL, and nothing is read from it;
+   - never NULL, whatever the length: the library takes an address to be one, and a NULL is undefined behaviour there, with length 0
+     too, and also where the flag before it is false. The inline calls below (acl_ask_.., acl_tell_..) take NULL;
+   - a bool that is 0 or 1, as every conversion to C's bool gives;
+   - nothing else that is lent overlaps the store that acl_open or an event writes. Texts may overlap one another, and in a question
+     a text may lie in the store.
+   Nothing else is owed: a text may hold any bytes, a number be any of its type.
+
+   An optional text, or number, counts where the bool before it is true; where it is false it is not looked at.
+
+   Refusals by number, each the first cause in document 01's order; all lent memory is then unchanged. See acl_refusal below. */
+#ifndef ACL_H
+#define ACL_H
+
+#include <stdbool.h>
+#include <stddef.h>
+#include <stdint.h>
+#include <string.h>
+
+#ifdef __cplusplus
+extern "C" {
+#endif
+
+/* The numbers of document 01, "Refusals by operation". */
+enum acl_refusal {
+    ACL_TOO_LONG = 1,        /* a text over its length, a rule text over its lines, an array of topics over 64 */
+    ACL_OUT_OF_RANGE = 2,    /* session over 255; earlier code over 4 (connect) or 2; QoS over 2; nanoseconds over 999,999,999 */
+    ACL_MALFORMED = 3,       /* the store is not as laid out */
+    ACL_COUNTS = 4,          /* a count out of range, or the store's length is not the formula's */
+    ACL_NOT_JSON = 5,        /* a line that is not document 01's JSON */
+    ACL_NOT_A_RULE = 6,      /* a line that is not a rule */
+    ACL_FILLED_TOO_LONG = 7, /* a text over 256 bytes once filled */
+    ACL_FILTERS_FULL = 8,    /* new filter rows exceed those free */
+    ACL_EQS_FULL = 9,        /* new eq rows exceed those free */
+    ACL_NOTES_FULL = 10      /* new note rows exceed those free */
+};
+
+/* ---- Filters and matching ---- */
+
+/* Is the text a valid filter? `+` and `#` only as whole levels, `#` only as the last; the empty text is valid. */
+bool acl_valid_filter(const uint8_t *text, size_t text_length);
+
+/* Tree match T, the plugin's: does the filter take the checked text? */
+bool acl_tree_match(const uint8_t *filter, size_t filter_length, const uint8_t *text, size_t text_length);
+
+/* Plain match P, the per-client rules': does the filter take the checked text? */
+bool acl_plain_match(const uint8_t *filter, size_t filter_length, const uint8_t *text, size_t text_length);
+
+/* ---- One line: a JSON document, a plugin rule ---- */
+
+/* Is the line, without its LF, one of document 01's JSON documents? */
+bool acl_is_document(const uint8_t *line, size_t line_length);
+
+/* And one whose decoded strings, member names included, have at most this many bytes? */
+bool acl_is_document_within(const uint8_t *line, size_t line_length, size_t most);
+
+/* 0 for a rule, else the number by which the line is refused: 1, 5 or 6. */
+uint8_t acl_rule_refusal(const uint8_t *line, size_t line_length);
+
+/* Do the users that the line's rule lists agree with the client? The values of acl_identity_answer. */
+uint8_t acl_identity(const uint8_t *line, size_t line_length, const uint8_t *id, size_t id_length, bool has_name, const uint8_t *name,
+                     size_t name_length, bool has_password, const uint8_t *password, size_t password_length, bool has_address,
+                     const uint8_t *address, size_t address_length, bool has_protocol, uint8_t protocol);
+
+enum acl_identity_answer {
+    ACL_DIFFERS = 0,
+    ACL_AGREES = 1,
+    ACL_AGREES_SUPERUSER = 2, /* with the superuser flag */
+    ACL_NO_RULE = 3           /* the line is no rule */
+};
+
+/* ---- A store ---- */
+
+/* Opens a store for a rule text: R is `bytes` (1 to 32,768), F, E and N are `filters`, `eqs` and `notes` (1 to 4,096), and the store's
+   length must be 16 + R + 326F + 260E + 260N (acl_store_length). What the bytes were doesn't matter. Writes every byte of the store:
+   the counts, the text, no used row. Answers 0, or the number plus 256 times the line (acl_open_refusal, acl_open_line): 4; 1 text over
+   R, line 0, or over 256 lines, line 257; then the first faulty line's 1, 5 or 6, lines from 1. At most 66,047. */
+uint32_t acl_open(uint8_t *store, size_t store_length, uint64_t bytes, uint64_t filters, uint64_t eqs, uint64_t notes,
+                  const uint8_t *text, size_t text_length);
+
+/* Event: a client has connected. Fills the templates of the rules and adds filter, eq and note rows. Answers 0 done, else the number: 1
+   id or name over 64 bytes; 2 session over 255; 3; 7; 8, 9, 10. */
+uint8_t acl_connected(uint8_t *store, size_t store_length, uint64_t session, const uint8_t *id, size_t id_length, bool has_name,
+                      const uint8_t *name, size_t name_length);
+
+/* Event: a client has disconnected. For each note of the session that is a valid filter, the client's filter rows that T-match it go;
+   the notes stay. Answers 0 done, else the number: 1 id over 64 bytes; 2; 3. */
+uint8_t acl_disconnected(uint8_t *store, size_t store_length, uint64_t session, const uint8_t *id, size_t id_length);
+
+/* Event: a session has ended. Drops its notes. Answers 0 done, else the number: 2, 3. */
+uint8_t acl_ended(uint8_t *store, size_t store_length, uint64_t session);
+
+/* The three questions on a store only read. `earlier` is the code of an earlier answer: 0 none; connect 1 allow, 2 not found, 3 bad
+   name or password, 4 not authorized; subscribe and publish 1 allow, 2 rejected. Connect's 3 and 4 and the others' 2 are kept.
+   The answer is 16 times the rule, from 1, or 0 where no rule decides, plus the value of acl_what; for a kept code 16 times the code,
+   plus 1; for a refusal 16 times its number. Refused by 1: id or name over 64 bytes, password over 128, address over 45, topic over
+   256; 2: the code, or the QoS; 3. At most 4,111. */
+
+/* May the client connect? ACL_KEPT, ACL_CONNECT_ALLOWED, ACL_CONNECT_SUPERUSER, ACL_NOT_AUTHORIZED or ACL_REFUSED. */
+uint32_t acl_connect(const uint8_t *store, size_t store_length, uint64_t earlier, const uint8_t *id, size_t id_length, bool has_name,
+                     const uint8_t *name, size_t name_length, bool has_password, const uint8_t *password, size_t password_length,
+                     bool has_address, const uint8_t *address, size_t address_length, uint8_t protocol);
+
+/* May the client subscribe to the topic? ACL_KEPT, ACL_SUBSCRIBE_QOS0 to QOS2 (the asked QoS), ACL_UNSPECIFIED_ERROR or ACL_REFUSED. */
+uint32_t acl_subscribe(const uint8_t *store, size_t store_length, uint64_t earlier, const uint8_t *id, size_t id_length, bool has_name,
+                       const uint8_t *name, size_t name_length, bool has_password, const uint8_t *password, size_t password_length,
+                       bool has_address, const uint8_t *address, size_t address_length, bool has_protocol, uint8_t protocol,
+                       const uint8_t *topic, size_t topic_length, uint64_t qos);
+
+/* May the client publish to the topic? ACL_KEPT, ACL_PUBLISH_ALLOWED, ACL_PUBLISH_REFUSED, with the caller's disconnect flag
+   ACL_PUBLISH_DROPPED, or ACL_REFUSED. */
+uint32_t acl_publish(const uint8_t *store, size_t store_length, uint64_t earlier, const uint8_t *id, size_t id_length, bool has_name,
+                     const uint8_t *name, size_t name_length, bool has_password, const uint8_t *password, size_t password_length,
+                     bool has_address, const uint8_t *address, size_t address_length, bool has_protocol, uint8_t protocol,
+                     const uint8_t *topic, size_t topic_length, bool disconnect);
+
+/* ---- The rules that came with a client's credentials ---- */
+
+/* Per-client questions: `rules` is a text of at most 32,768 bytes and 256 lines, each an object. The answer is 16 times the rule, from
+   1, or 0 for a superuser, plus the value of acl_what; 12 alone where no rule hits; for a refusal 16 times its number and 4,096 times
+   its line: 1 id or name over 64 bytes, topic over 256, text too long, line 0, or over 256 lines, line 257; 2 QoS over 2, line 0; then
+   the first faulty line's 1, 5, 6 or 7. At most 1,052,832. */
+
+/* May the client subscribe to the topic, by its rules? ACL_SUBSCRIBE_QOS0 to QOS2, ACL_NOT_AUTHORIZED, ACL_NO_DECISION or ACL_REFUSED. */
+uint64_t acl_client_subscribe(bool superuser, const uint8_t *id, size_t id_length, bool has_name, const uint8_t *name,
+                              size_t name_length, const uint8_t *rules, size_t rules_length, uint64_t qos, const uint8_t *topic,
+                              size_t topic_length);
+
+/* May the client publish to the topic, by its rules? ACL_PUBLISH_ALLOWED, ACL_PUBLISH_REFUSED, ACL_PUBLISH_DROPPED, ACL_NO_DECISION or
+   ACL_REFUSED. */
+uint64_t acl_client_publish(bool superuser, const uint8_t *id, size_t id_length, bool has_name, const uint8_t *name, size_t name_length,
+                            const uint8_t *rules, size_t rules_length, uint64_t qos, bool retain, bool disconnect,
+                            const uint8_t *topic, size_t topic_length);
+
+/* Are the credentials expired now? Expiry below now is; equal isn't; none never. ACL_VALID, ACL_EXPIRED, or ACL_REFUSED with number 2:
+   nanoseconds of either time over 999,999,999. */
+uint64_t acl_expired(bool has_expiry, uint64_t expiry_seconds, uint64_t expiry_nanoseconds, uint64_t seconds, uint64_t nanoseconds);
+
+/* ---- What an answer says ---- */
+
+/* What a question is answered: its number modulo 16. */
+enum acl_what {
+    ACL_REFUSED = 0,            /* refused by number: acl_answer_number, and acl_answer_line for per-client questions */
+    ACL_KEPT = 1,               /* the earlier answer is kept, rule 0: acl_answer_code */
+    ACL_CONNECT_ALLOWED = 2,    /* allow */
+    ACL_CONNECT_SUPERUSER = 3,  /* allow, with the superuser flag */
+    ACL_SUBSCRIBE_QOS0 = 4,     /* allow, with the asked QoS: acl_answer_qos */
+    ACL_SUBSCRIBE_QOS1 = 5,
+    ACL_SUBSCRIBE_QOS2 = 6,
+    ACL_PUBLISH_ALLOWED = 7,    /* allow */
+    ACL_NOT_AUTHORIZED = 8,     /* a refused connect, or a refused per-client subscribe */
+    ACL_PUBLISH_REFUSED = 9,    /* a refused publish, not authorized, without the disconnect flag */
+    ACL_PUBLISH_DROPPED = 10,   /* a refused publish, not authorized, with the disconnect flag */
+    ACL_UNSPECIFIED_ERROR = 11, /* a refused subscribe on a store */
+    ACL_NO_DECISION = 12,       /* per-client: no rule hits */
+    ACL_VALID = 13,             /* not expired */
+    ACL_EXPIRED = 14
+};
+
+static inline enum acl_what acl_answer_what(uint64_t answer) { return (enum acl_what)(answer % 16); }
+
+/* Does the answer allow? A kept code doesn't: it is a refusal. No decision doesn't either; what follows is the caller's. */
+static inline bool acl_answer_allows(uint64_t answer) {
+    return acl_answer_what(answer) >= ACL_CONNECT_ALLOWED && acl_answer_what(answer) <= ACL_PUBLISH_ALLOWED;
+}
+
+/* The deciding rule, from 1; 0 where none decided, where a code is kept and where the call is refused. */
+static inline unsigned acl_answer_rule(uint64_t answer) {
+    return acl_answer_what(answer) == ACL_REFUSED || acl_answer_what(answer) == ACL_KEPT ? 0 : (unsigned)(answer / 16);
+}
+
+/* The code that is kept; 0 where none is. */
+static inline unsigned acl_answer_code(uint64_t answer) { return acl_answer_what(answer) == ACL_KEPT ? (unsigned)(answer / 16) : 0; }
+
+/* The QoS of an allowed subscribe; 0 of anything else. */
+static inline unsigned acl_answer_qos(uint64_t answer) {
+    return acl_answer_what(answer) >= ACL_SUBSCRIBE_QOS0 && acl_answer_what(answer) <= ACL_SUBSCRIBE_QOS2 ? (unsigned)(answer % 16 - 4) : 0;
+}
+
+/* Does an allowed connect carry the superuser flag? */
+static inline bool acl_answer_superuser(uint64_t answer) { return acl_answer_what(answer) == ACL_CONNECT_SUPERUSER; }
+
+/* Does a refused publish carry the disconnect flag? */
+static inline bool acl_answer_disconnect(uint64_t answer) { return acl_answer_what(answer) == ACL_PUBLISH_DROPPED; }
+
+/* The number of document 01, an acl_refusal; 0 where the call isn't refused by number. */
+static inline unsigned acl_answer_number(uint64_t answer) {
+    return acl_answer_what(answer) == ACL_REFUSED ? (unsigned)(answer / 16 % 256) : 0;
+}
+
+/* Its line, of per-client rules; 0 where it has none. */
+static inline unsigned acl_answer_line(uint64_t answer) { return acl_answer_what(answer) == ACL_REFUSED ? (unsigned)(answer / 4096) : 0; }
+
+/* Of acl_open: the number, 0 for done, and the line, 0 where it has none. */
+static inline unsigned acl_open_refusal(uint32_t answer) { return answer % 256; }
+static inline unsigned acl_open_line(uint32_t answer) { return answer / 256; }
+
+/* The word that the programs `decide` and `client` write for a question's answer. */
+static inline const char *acl_answer_word(uint64_t answer) {
+    static const char *const words[16] = {"error", "kept", "allow", "super", "allow", "allow", "allow", "allow", "refuse",
+                                          "refuse", "drop", "refuse", "none", "valid", "expired", "?"};
+    return words[answer % 16];
+}
+
+/* ---- The same calls on texts, NULL allowed ---- */
+
+/* A lent text. With `bytes` NULL, whatever the length, it is absent: an optional one doesn't count, any other is empty. */
+typedef struct acl_text {
+    const void *bytes;
+    size_t length;
+} acl_text;
+
+static inline acl_text acl_bytes(const void *bytes, size_t length) {
+    acl_text text;
+    text.bytes = bytes;
+    text.length = bytes ? length : 0;
+    return text;
+}
+
+static inline acl_text acl_absent(void) { return acl_bytes(NULL, 0); }
+
+/* The text before the string's zero byte; absent for NULL. */
+static inline acl_text acl_string(const char *string) { return acl_bytes(string, string ? strlen(string) : 0); }
+
+/* What crosses: the address, never NULL, and the length. */
+static inline const uint8_t *acl_address(acl_text text) {
+    static const uint8_t nothing[1] = {0};
+    return text.bytes ? (const uint8_t *)text.bytes : nothing;
+}
+static inline size_t acl_length(acl_text text) { return text.bytes ? text.length : 0; }
+static inline bool acl_given(acl_text text) { return text.bytes != NULL; }
+
+/* Who asks. */
+typedef struct acl_client {
+    acl_text id;
+    acl_text name;     /* optional, as the next two */
+    acl_text password;
+    acl_text address;
+    bool has_protocol; /* not looked at by connect, which always has one */
+    uint8_t protocol;
+} acl_client;
+
+/* R, F, E, N: the bytes for the rule text and the rows that each table has room for. */
+typedef struct acl_counts {
+    uint64_t bytes, filters, eqs, notes;
+} acl_counts;
+
+/* The length of a store with these counts; 0 where one is out of range. */
+static inline size_t acl_store_length(acl_counts c) {
+    if (c.bytes < 1 || c.bytes > 32768 || c.filters < 1 || c.filters > 4096 || c.eqs < 1 || c.eqs > 4096 || c.notes < 1 || c.notes > 4096)
+        return 0;
+    return (size_t)(16 + c.bytes + 326 * c.filters + 260 * c.eqs + 260 * c.notes);
+}
+
+static inline bool acl_ask_valid_filter(acl_text text) { return acl_valid_filter(acl_address(text), acl_length(text)); }
+
+static inline bool acl_ask_tree_match(acl_text filter, acl_text text) {
+    return acl_tree_match(acl_address(filter), acl_length(filter), acl_address(text), acl_length(text));
+}
+
+static inline bool acl_ask_plain_match(acl_text filter, acl_text text) {
+    return acl_plain_match(acl_address(filter), acl_length(filter), acl_address(text), acl_length(text));
+}
+
+static inline bool acl_ask_document(acl_text line) { return acl_is_document(acl_address(line), acl_length(line)); }
+
+static inline bool acl_ask_document_within(acl_text line, size_t most) {
+    return acl_is_document_within(acl_address(line), acl_length(line), most);
+}
+
+static inline uint8_t acl_ask_rule_refusal(acl_text line) { return acl_rule_refusal(acl_address(line), acl_length(line)); }
+
+static inline uint8_t acl_ask_identity(acl_text line, const acl_client *c) {
+    return acl_identity(acl_address(line), acl_length(line), acl_address(c->id), acl_length(c->id), acl_given(c->name),
+                        acl_address(c->name), acl_length(c->name), acl_given(c->password), acl_address(c->password),
+                        acl_length(c->password), acl_given(c->address), acl_address(c->address), acl_length(c->address),
+                        c->has_protocol, c->protocol);
+}
+
+/* A store that is NULL is one of no bytes: acl_tell_open answers 4, events and questions 3, unless an earlier cause gives another. */
+static inline uint32_t acl_tell_open(uint8_t *store, size_t length, acl_counts c, acl_text text) {
+    uint8_t nothing = 0;
+    return acl_open(store ? store : &nothing, store ? length : 0, c.bytes, c.filters, c.eqs, c.notes, acl_address(text),
+                    acl_length(text));
+}
+
+static inline uint8_t acl_tell_connected(uint8_t *store, size_t length, uint64_t session, acl_text id, acl_text name) {
+    uint8_t nothing = 0;
+    return acl_connected(store ? store : &nothing, store ? length : 0, session, acl_address(id), acl_length(id), acl_given(name),
+                         acl_address(name), acl_length(name));
+}
+
+static inline uint8_t acl_tell_disconnected(uint8_t *store, size_t length, uint64_t session, acl_text id) {
+    uint8_t nothing = 0;
+    return acl_disconnected(store ? store : &nothing, store ? length : 0, session, acl_address(id), acl_length(id));
+}
+
+static inline uint8_t acl_tell_ended(uint8_t *store, size_t length, uint64_t session) {
+    uint8_t nothing = 0;
+    return acl_ended(store ? store : &nothing, store ? length : 0, session);
+}
+
+static inline uint32_t acl_ask_connect(acl_text store, uint64_t earlier, const acl_client *c) {
+    return acl_connect(acl_address(store), acl_length(store), earlier, acl_address(c->id), acl_length(c->id), acl_given(c->name),
+                       acl_address(c->name), acl_length(c->name), acl_given(c->password), acl_address(c->password),
+                       acl_length(c->password), acl_given(c->address), acl_address(c->address), acl_length(c->address), c->protocol);
+}
+
+static inline uint32_t acl_ask_subscribe(acl_text store, uint64_t earlier, const acl_client *c, acl_text topic, uint64_t qos) {
+    return acl_subscribe(acl_address(store), acl_length(store), earlier, acl_address(c->id), acl_length(c->id), acl_given(c->name),
+                         acl_address(c->name), acl_length(c->name), acl_given(c->password), acl_address(c->password),
+                         acl_length(c->password), acl_given(c->address), acl_address(c->address), acl_length(c->address),
+                         c->has_protocol, c->protocol, acl_address(topic), acl_length(topic), qos);
+}
+
+static inline uint32_t acl_ask_publish(acl_text store, uint64_t earlier, const acl_client *c, acl_text topic, bool disconnect) {
+    return acl_publish(acl_address(store), acl_length(store), earlier, acl_address(c->id), acl_length(c->id), acl_given(c->name),
+                       acl_address(c->name), acl_length(c->name), acl_given(c->password), acl_address(c->password),
+                       acl_length(c->password), acl_given(c->address), acl_address(c->address), acl_length(c->address),
+                       c->has_protocol, c->protocol, acl_address(topic), acl_length(topic), disconnect);
+}
+
+static inline uint64_t acl_ask_client_subscribe(bool superuser, acl_text id, acl_text name, acl_text rules, uint64_t qos,
+                                                acl_text topic) {
+    return acl_client_subscribe(superuser, acl_address(id), acl_length(id), acl_given(name), acl_address(name), acl_length(name),
+                                acl_address(rules), acl_length(rules), qos, acl_address(topic), acl_length(topic));
+}
+
+static inline uint64_t acl_ask_client_publish(bool superuser, acl_text id, acl_text name, acl_text rules, uint64_t qos, bool retain,
+                                              bool disconnect, acl_text topic) {
+    return acl_client_publish(superuser, acl_address(id), acl_length(id), acl_given(name), acl_address(name), acl_length(name),
+                              acl_address(rules), acl_length(rules), qos, retain, disconnect, acl_address(topic), acl_length(topic));
+}
+
+#ifdef __cplusplus
+}
+#endif
+#endif
