@@ -1,0 +1,57 @@
+//! Access rules of an MQTT broker: who may connect, subscribe and publish.
+//!
+//! The functions behind this crate are written in Rattle and proved: for any bytes and any numbers each gives
+//! the answer of the specification (document 01 below), refusals too. This crate is the thin layer that calls
+//! them from Rust: it lends slices, and turns the numbers that come back into enums. The layer is tested, not
+//! proved.
+//!
+//! - [`Store`]: the plugin's rules, with the rows that clients bring; events ([`Store::connected`], ..) and
+//!   questions ([`Store::connect`], [`Store::subscribe`], [`Store::publish`]).
+//! - [`AuthInfo`]: the rules that came with one client's credentials; [`expired`].
+//! - [`valid_filter`], [`tree_match`] (T, the plugin's), [`plain_match`] (P, the per-client rules').
+//! - [`check_rule`], [`identity`], [`is_document`], [`is_document_within`]: one line.
+//!
+//! Texts are bytes, of any content. No call allocates but [`Store::open`], and none keeps what it is lent. A
+//! refusal is an `Err` with document 01's number, and then nothing has changed. No call panics, whatever it
+//! is given; only a number that is no answer does, which the library is proved not to give. An empty slice
+//! may be lent everywhere: its address is dangling, never null, and nothing is read from it.
+//!
+//! ```
+//! use mqtt_acl::{Client, Connect, Counts, Publish, Store};
+//!
+//! let rules = br#"["allow",{"user":"bo"},"publish",["bench/%c/set"]]
+//! ["deny","all","pubsub"]
+//! "#;
+//! let mut store = Store::open(Counts::new(2048, 64, 32, 64)?, rules)?;
+//! let g7 = Client { id: b"g7", name: Some(b"bo"), ..Client::default() };
+//!
+//! assert_eq!(store.connect(0, g7, 4)?, Connect::Refuse { rule: 0 });
+//! store.connected(1, b"g7", Some(b"bo"))?;
+//! assert_eq!(store.publish(0, g7, Some(4), b"bench/g7/set", true)?, Publish::Allow { rule: 1 });
+//! # Ok::<(), Box<dyn std::error::Error>>(())
+//! ```
+//!
+//! # Building
+//!
+//! `rt staticlib ffi` in the repository proves the functions and writes target/staticlib/libffi.a, for
+//! x86-64. build.rs links it from there, or from the folder that the environment variable `ACL_LIB` names.
+#![deny(missing_docs, unsafe_code, unsafe_op_in_unsafe_fn)]
+
+#[cfg(not(all(target_arch = "x86_64", target_pointer_width = "64")))]
+compile_error!("libffi.a is for x86-64");
+
+mod answers;
+mod authinfo;
+mod line;
+mod store;
+#[allow(unsafe_code)]
+mod sys;
+
+pub use answers::{
+    ClientPublish, ClientSubscribe, Connect, Identity, LineRefusal, Publish, Refusal, Subscribe,
+};
+pub use authinfo::{expired, AuthInfo, Time};
+pub use line::{
+    check_rule, identity, is_document, is_document_within, plain_match, tree_match, valid_filter,
+};
+pub use store::{Client, Counts, Store};

@@ -1,0 +1,365 @@
+//! Document 01's example, limits and refusals, through the crate's public calls.
+
+use mqtt_acl::{
+    check_rule, expired, identity, is_document, is_document_within, plain_match, tree_match, valid_filter,
+    AuthInfo, Client, ClientPublish, ClientSubscribe, Connect, Counts, Identity, LineRefusal, Publish,
+    Refusal, Store, Subscribe, Time,
+};
+
+const EXAMPLE: &[u8] = br#"["allow",{"user":"bo"},"publish",["bench/%c/set"]]
+["deny","all","pubsub"]
+"#;
+
+const G7: Client<'static> = Client { id: b"g7", name: Some(b"bo"), password: None, address: None };
+
+/// A store of the counts of `decide`.
+fn opened(rules: &[u8]) -> Store {
+    Store::open(Counts::new(2048, 64, 32, 64).unwrap(), rules).unwrap()
+}
+
+fn at(refusal: Refusal, line: u16) -> LineRefusal {
+    LineRefusal { refusal, line }
+}
+
+#[test]
+fn document_01_s_example() {
+    let mut store = opened(EXAMPLE);
+    assert_eq!(store.as_bytes().len(), 47_888);
+    let publish = |store: &Store| store.publish(0, G7, Some(4), b"bench/g7/set", true);
+    let dropped = Ok(Publish::Refuse { rule: 2, disconnect: true });
+
+    assert_eq!(store.connect(0, G7, 4), Ok(Connect::Refuse { rule: 0 }));
+    assert_eq!(publish(&store), dropped);
+    assert_eq!(store.connected(1, b"g7", Some(b"bo")), Ok(()));
+    assert_eq!(publish(&store), Ok(Publish::Allow { rule: 1 }));
+    assert_eq!(store.disconnected(1, b"g7"), Ok(()));
+    assert_eq!(publish(&store), dropped);
+
+    // The note of the session is left; with its end the store is as opened.
+    assert_ne!(store, opened(EXAMPLE));
+    assert_eq!(store.ended(1), Ok(()));
+    assert_eq!(store, opened(EXAMPLE));
+}
+
+#[test]
+fn every_answer_of_a_question() {
+    let store = opened(
+        br#"["allow",{"user":"root","superuser":true},"connect"]
+["allow",{"clientid":"g7"}]
+"#,
+    );
+    let root = Client { id: b"r", name: Some(b"root"), ..Client::default() };
+    let nobody = Client { id: b"n", ..Client::default() };
+    assert_eq!(store.connect(0, root, 4), Ok(Connect::Allow { rule: 1, superuser: true }));
+    assert_eq!(store.connect(1, G7, 4), Ok(Connect::Allow { rule: 2, superuser: false }));
+    assert_eq!(store.connect(2, nobody, 4), Ok(Connect::Refuse { rule: 0 }));
+    assert_eq!(store.connect(3, G7, 4), Ok(Connect::Kept(3)));
+    assert_eq!(store.connect(4, G7, 4), Ok(Connect::Kept(4)));
+
+    for qos in 0..=2u8 {
+        let answer = store.subscribe(0, G7, None, b"a", qos.into());
+        assert_eq!(answer, Ok(Subscribe::Allow { rule: 2, qos }));
+    }
+    assert_eq!(store.subscribe(1, root, None, b"a", 0), Ok(Subscribe::Refuse { rule: 0 }));
+    assert_eq!(store.subscribe(2, G7, None, b"a", 0), Ok(Subscribe::Kept(2)));
+
+    assert_eq!(store.publish(1, G7, None, b"a", true), Ok(Publish::Allow { rule: 2 }));
+    for disconnect in [false, true] {
+        let answer = store.publish(0, nobody, None, b"a", disconnect);
+        assert_eq!(answer, Ok(Publish::Refuse { rule: 0, disconnect }));
+    }
+    assert_eq!(store.publish(2, G7, None, b"a", true), Ok(Publish::Kept(2)));
+}
+
+/// Each text, and the protocol, goes to its own place in each of the four calls that take a client.
+#[test]
+fn each_text_to_its_place() {
+    let lines: [&[u8]; 4] = [
+        br#"["allow",{"clientid":"x"}]"#,
+        br#"["allow",{"user":"x","password":"y"}]"#,
+        br#"["allow",{"ipaddr":"x"}]"#,
+        br#"["allow",{"protocol":4}]"#,
+    ];
+    let none = Client { id: b"-", ..Client::default() };
+    let clients = [
+        (Client { id: b"x", ..none }, 3),
+        (Client { name: Some(b"x"), password: Some(b"y"), ..none }, 3),
+        (Client { address: Some(b"x"), ..none }, 3),
+        (none, 4),
+    ];
+    for (asked, (client, protocol)) in clients.into_iter().enumerate() {
+        for (line, rule) in lines.into_iter().enumerate() {
+            let agrees = asked == line;
+            let store = opened(rule);
+            let expected = if agrees { Identity::Agrees { superuser: false } } else { Identity::Differs };
+            assert_eq!(identity(rule, client, Some(protocol)), expected);
+            let connected = store.connect(0, client, protocol).unwrap();
+            assert_eq!(connected == Connect::Allow { rule: 1, superuser: false }, agrees);
+            let subscribed = store.subscribe(0, client, Some(protocol), b"t", 1).unwrap();
+            assert_eq!(subscribed == Subscribe::Allow { rule: 1, qos: 1 }, agrees);
+            let published = store.publish(0, client, Some(protocol), b"t", false).unwrap();
+            assert_eq!(published == Publish::Allow { rule: 1 }, agrees);
+        }
+    }
+    // Absent is neither empty nor 0.
+    let empty = br#"["allow",{"user":"","password":""}]"#;
+    let given = Client { name: Some(b""), password: Some(b""), ..none };
+    assert_eq!(identity(empty, given, None), Identity::Agrees { superuser: false });
+    assert_eq!(identity(empty, Client { password: None, ..given }, None), Identity::Differs);
+    assert_eq!(identity(empty, Client { name: None, ..given }, None), Identity::Differs);
+    let zero = br#"["allow",{"protocol":256}]"#;
+    assert_eq!(identity(zero, none, Some(0)), Identity::Agrees { superuser: false });
+    assert_eq!(identity(zero, none, None), Identity::Differs);
+    assert_eq!(
+        opened(zero).publish(0, none, None, b"t", false),
+        Ok(Publish::Refuse { rule: 0, disconnect: false })
+    );
+    let root = br#"["allow",{"user":"x","superuser":true}]"#;
+    assert_eq!(
+        identity(root, Client { name: Some(b"x"), ..none }, None),
+        Identity::Agrees { superuser: true }
+    );
+    assert_eq!(identity(b"[]", none, None), Identity::NoRule);
+}
+
+/// 1 to 10, each once, and the store as it was.
+#[test]
+fn refusals_by_number() {
+    let small = |rules: &[u8]| Store::open(Counts::new(256, 2, 1, 1).unwrap(), rules).unwrap();
+    let connected = |rules: &[u8], session: u64, id: &[u8]| {
+        let mut store = small(rules);
+        let before = store.clone();
+        let answer = store.connected(session, id, None);
+        assert!(answer.is_ok() || store == before);
+        answer.map_err(Refusal::number)
+    };
+    assert_eq!(connected(b"", 0, &[b'a'; 65]), Err(1));
+    assert_eq!(connected(b"", 256, b"a"), Err(2));
+    assert_eq!(Store::from_bytes(vec![0; 16]).connected(0, b"a", None).map_err(Refusal::number), Err(3));
+    assert_eq!(Counts::new(0, 1, 1, 1).map_err(Refusal::number), Err(4));
+    assert_eq!(check_rule(b"[").map_err(Refusal::number), Err(5));
+    assert_eq!(check_rule(b"[]").map_err(Refusal::number), Err(6));
+    assert_eq!(connected(br#"["allow","all","all",["%c%c%c%c/"]]"#, 0, &[b'a'; 64]), Err(7));
+    assert_eq!(connected(br#"["allow","all","all",["%c/1","%c/2","%c/3"]]"#, 0, b"a"), Err(8));
+    assert_eq!(connected(br#"["allow","all","all",[{"eq":"%c1"},{"eq":"%c2"}]]"#, 0, b"a"), Err(9));
+    assert_eq!(connected(br#"["allow","all","all",["%c/1","%c/2"]]"#, 0, b"a"), Err(10));
+    assert_eq!(connected(br#"["allow","all","all",["%c/1",{"eq":"%c"}]]"#, 255, &[b'a'; 64]), Ok(()));
+}
+
+#[test]
+fn refusals_of_opening_have_a_line() {
+    let counts = Counts::new(4096, 1, 1, 1).unwrap();
+    let open = |rules: &[u8]| Store::open(counts, rules).map(drop);
+    let rule = |n: usize| {
+        br#"["deny","all"]
+"#
+        .repeat(n)
+    };
+    assert_eq!(open(&rule(256)), Ok(()));
+    assert_eq!(open(&rule(257)), Err(at(Refusal::TooLong, 257)));
+    assert_eq!(open(&[b' '; 4097]), Err(at(Refusal::TooLong, 0)));
+    assert_eq!(open(&[b' '; 2049]), Err(at(Refusal::TooLong, 1)));
+    assert_eq!(open(&[rule(2), b"[".to_vec()].concat()), Err(at(Refusal::NotJson, 3)));
+    assert_eq!(open(&[rule(255), b"[]\n".to_vec()].concat()), Err(at(Refusal::NotARule, 256)));
+    let mut store = opened(EXAMPLE);
+    assert_eq!(store.reopen(Counts::new(2048, 64, 32, 64).unwrap(), b"[]"), Err(at(Refusal::NotARule, 1)));
+    assert_eq!(store, opened(EXAMPLE));
+}
+
+#[test]
+fn a_store_of_another_length() {
+    let counts = Counts::new(2048, 64, 32, 64).unwrap();
+    let whole = opened(EXAMPLE).into_bytes();
+    for length in [0, 1, 15, 16, 17, whole.len() - 1] {
+        let mut store = Store::from_bytes(whole[..length].to_vec());
+        let before = store.clone();
+        assert_eq!(store.reopen(counts, EXAMPLE), Err(at(Refusal::Counts, 0)));
+        assert_eq!(store.connected(0, b"a", None), Err(Refusal::Malformed));
+        assert_eq!(store.disconnected(0, b"a"), Err(Refusal::Malformed));
+        assert_eq!(store.ended(0), Err(Refusal::Malformed));
+        assert_eq!(store.connect(4, G7, 4), Err(Refusal::Malformed));
+        assert_eq!(store.subscribe(0, G7, None, b"a", 0), Err(Refusal::Malformed));
+        assert_eq!(store.publish(0, G7, None, b"a", true), Err(Refusal::Malformed));
+        assert_eq!(store, before);
+    }
+    let mut longer = Store::from_bytes([whole.as_slice(), b"\0"].concat());
+    assert_eq!(longer.ended(0), Err(Refusal::Malformed));
+    assert_eq!(longer.reopen(counts, EXAMPLE), Err(at(Refusal::Counts, 0)));
+    assert_eq!(Store::from_bytes(whole).connect(4, G7, 4), Ok(Connect::Kept(4)));
+}
+
+/// Each length at its limit and one past it, in each call that takes the text.
+#[test]
+fn lengths() {
+    let mut store = opened(EXAMPLE);
+    let long = [b'a'; 257];
+    let none = Client { id: b"a", ..Client::default() };
+    let with = |length: usize, place: usize| {
+        let text = &long[..length];
+        match place {
+            0 => Client { id: text, ..none },
+            1 => Client { name: Some(text), ..none },
+            2 => Client { password: Some(text), ..none },
+            _ => Client { address: Some(text), ..none },
+        }
+    };
+    for (place, most) in [64, 64, 128, 45].into_iter().enumerate() {
+        for (length, fits) in [(0, true), (most, true), (most + 1, false), (257, false)] {
+            let client = with(length, place);
+            let judge = |refusal: Option<Refusal>| {
+                assert_eq!(refusal, if fits { None } else { Some(Refusal::TooLong) }, "{place} {length}")
+            };
+            judge(store.connect(0, client, 4).err());
+            judge(store.subscribe(0, client, None, b"a", 0).err());
+            judge(store.publish(0, client, None, b"a", true).err());
+            if place == 0 {
+                judge(store.disconnected(1, client.id).err());
+            }
+            if place < 2 {
+                judge(store.connected(1, client.id, client.name).err());
+                let own = AuthInfo { id: client.id, name: client.name, ..AuthInfo::default() };
+                judge(own.subscribe(0, b"a").err().map(|r| r.refusal));
+                judge(own.publish(0, false, false, b"a").err().map(|r| r.refusal));
+            }
+        }
+    }
+    let own = AuthInfo { id: b"a", ..AuthInfo::default() };
+    assert!(store.subscribe(0, none, None, &long[..256], 0).is_ok());
+    assert_eq!(store.subscribe(0, none, None, &long, 0), Err(Refusal::TooLong));
+    assert!(store.publish(0, none, None, &long[..256], true).is_ok());
+    assert_eq!(store.publish(0, none, None, &long, true), Err(Refusal::TooLong));
+    assert_eq!(own.subscribe(0, &long[..256]), Ok(ClientSubscribe::NoDecision));
+    assert_eq!(own.subscribe(0, &long), Err(at(Refusal::TooLong, 0)));
+    assert_eq!(own.publish(0, false, false, &long), Err(at(Refusal::TooLong, 0)));
+}
+
+/// Each number that can be refused: its last good value, the next, and the largest.
+#[test]
+fn numbers() {
+    let mut store = opened(EXAMPLE);
+    let own = AuthInfo { id: b"a", ..AuthInfo::default() };
+    let ok_then_2 = |most: u64, call: &mut dyn FnMut(u64) -> Option<Refusal>| {
+        assert_eq!(call(most), None);
+        for over in [most + 1, most + (1 << 8), most + (1 << 16), most + (1 << 32), u64::MAX - 1, u64::MAX] {
+            assert_eq!(call(over), Some(Refusal::OutOfRange), "{over}");
+        }
+    };
+    ok_then_2(255, &mut |n| store.connected(n, b"a", None).err());
+    ok_then_2(255, &mut |n| store.disconnected(n, b"a").err());
+    ok_then_2(255, &mut |n| store.ended(n).err());
+    ok_then_2(4, &mut |n| store.connect(n, G7, 4).err());
+    ok_then_2(2, &mut |n| store.subscribe(n, G7, None, b"a", 0).err());
+    ok_then_2(2, &mut |n| store.subscribe(0, G7, None, b"a", n).err());
+    ok_then_2(2, &mut |n| store.publish(n, G7, None, b"a", true).err());
+    ok_then_2(2, &mut |n| own.subscribe(n, b"a").err().map(|r| r.refusal));
+    ok_then_2(2, &mut |n| own.publish(n, true, true, b"a").err().map(|r| r.refusal));
+    let time = |nanoseconds| Time { seconds: u64::MAX, nanoseconds };
+    ok_then_2(999_999_999, &mut |n| expired(Some(time(n)), time(0)).err());
+    ok_then_2(999_999_999, &mut |n| expired(Some(time(0)), time(n)).err());
+    ok_then_2(999_999_999, &mut |n| expired(None, time(n)).err());
+    for past in [[0, 1, 1, 1], [1, 0, 1, 1], [1, 1, 0, 1], [1, 1, 1, 0], [32_769, 1, 1, 1], [1, 4_097, 1, 1]]
+    {
+        assert_eq!(Counts::new(past[0], past[1], past[2], past[3]), Err(Refusal::Counts));
+    }
+    assert_eq!(Counts::new(u64::MAX, u64::MAX, u64::MAX, u64::MAX), Err(Refusal::Counts));
+    let most = Counts::new(32_768, 4_096, 4_096, 4_096).unwrap();
+    assert_eq!(most.length(), 16 + 32_768 + 4_096 * (326 + 260 + 260));
+    assert_eq!(Store::open(most, EXAMPLE).unwrap().as_bytes().len(), most.length());
+}
+
+#[test]
+fn empty_slices() {
+    assert!(valid_filter(b""));
+    assert!(tree_match(b"", b"") && plain_match(b"", b""));
+    assert!(tree_match(b"#", b"") && !tree_match(b"", b"a"));
+    assert!(!is_document(b"") && !is_document_within(b"", 0));
+    assert_eq!(check_rule(b""), Err(Refusal::NotJson));
+    assert_eq!(identity(b"", Client::default(), None), Identity::NoRule);
+
+    let mut store = opened(b"");
+    assert_eq!(store.connected(0, b"", Some(b"")), Ok(()));
+    assert_eq!(store.disconnected(0, b""), Ok(()));
+    assert_eq!(store.connect(0, Client::default(), 0), Ok(Connect::Refuse { rule: 0 }));
+    let refused = Publish::Refuse { rule: 0, disconnect: false };
+    assert_eq!(store.publish(0, Client::default(), None, b"", false), Ok(refused));
+    assert_eq!(store.subscribe(0, Client::default(), None, b"", 0), Ok(Subscribe::Refuse { rule: 0 }));
+    let all = opened(br#"["allow","all","all",[""]]"#);
+    assert_eq!(all.publish(0, Client::default(), None, b"", false), Ok(Publish::Allow { rule: 1 }));
+
+    assert_eq!(AuthInfo::default().subscribe(0, b""), Ok(ClientSubscribe::NoDecision));
+    let root = AuthInfo { superuser: true, ..AuthInfo::default() };
+    assert_eq!(root.publish(0, false, false, b""), Ok(ClientPublish::Allow { rule: 0 }));
+}
+
+/// Document 01's marked examples of matching.
+#[test]
+fn matching() {
+    assert!(!tree_match(b"#", b"$SYS/a"));
+    assert!(tree_match(b"a/#", b"a/$b") && !plain_match(b"a/#", b"a/$b"));
+    assert!(plain_match(b"+", b"$SYS/a/b") && !tree_match(b"+", b"$SYS/a/b"));
+    assert!(!plain_match(b"+/b", b"$SYS/b"));
+    assert!(tree_match(b"a/+", b"a/#") && tree_match(b"a/+", b"a/") && !tree_match(b"a/+", b"a"));
+    assert!(valid_filter(b"a/+/#") && !valid_filter(b"a/#/b") && !valid_filter(b"a+"));
+    assert!(is_document(br#"{"a":[1]}"#) && !is_document(b"-1"));
+    assert!(is_document_within(br#""ab""#, 2) && !is_document_within(br#""ab""#, 1));
+    assert!(is_document_within(br#""ab""#, usize::MAX));
+}
+
+#[test]
+fn a_client_s_own_rules() {
+    let rules = br##"{"permission":"allow","action":"publish","qos":[0,1],"retain":false,"topic":"bench/${clientid}/#"}
+{"permission":"deny","action":"publish","topic":"eq ${username}"}
+{"permission":"deny","action":"subscribe","qos":2,"topic":"#"}
+{"permission":"allow","action":"subscribe","topic":"#"}
+"##;
+    let g7 = AuthInfo { superuser: false, id: b"g7", name: Some(b"bo"), rules };
+    let publish = |qos, retain, topic: &[u8]| g7.publish(qos, retain, true, topic);
+    assert_eq!(publish(0, false, b"bench/g7/set"), Ok(ClientPublish::Allow { rule: 1 }));
+    assert_eq!(publish(0, true, b"bench/g7/set"), Ok(ClientPublish::NoDecision));
+    assert_eq!(publish(2, false, b"bench/g7/set"), Ok(ClientPublish::NoDecision));
+    assert_eq!(publish(0, false, b"bench/g7/$step"), Ok(ClientPublish::NoDecision));
+    assert_eq!(publish(0, false, b"bo"), Ok(ClientPublish::Refuse { rule: 2, disconnect: true }));
+    assert_eq!(g7.publish(0, false, false, b"bo"), Ok(ClientPublish::Refuse { rule: 2, disconnect: false }));
+    assert_eq!(g7.subscribe(2, b"a"), Ok(ClientSubscribe::Refuse { rule: 3 }));
+    assert_eq!(g7.subscribe(1, b"a"), Ok(ClientSubscribe::Allow { rule: 4, qos: 1 }));
+    let root = AuthInfo { superuser: true, ..g7 };
+    assert_eq!(root.subscribe(2, b"a"), Ok(ClientSubscribe::Allow { rule: 0, qos: 2 }));
+
+    // Refusals of a line come before the superuser.
+    let with = |rules| AuthInfo { rules, ..root }.subscribe(0, b"a");
+    assert_eq!(AuthInfo { name: None, ..root }.subscribe(0, b"a"), Err(at(Refusal::NotARule, 2)));
+    assert_eq!(with(b"\n"), Err(at(Refusal::NotJson, 1)));
+    assert_eq!(with(&[b' '; 2_049]), Err(at(Refusal::TooLong, 1)));
+    assert_eq!(with(&[b' '; 32_769]), Err(at(Refusal::TooLong, 0)));
+    assert_eq!(with(&[b'\n'; 257]), Err(at(Refusal::TooLong, 257)));
+    let long = [
+        br#"{"permission":"allow","action":"all","topic":"eq ${clientid}"#.as_slice(),
+        &[b'a'; 200],
+        br#""}"#,
+    ];
+    let rules = [rules.as_slice(), &long.concat()].concat();
+    let filled = |id| AuthInfo { id, rules: &rules, ..g7 }.publish(0, false, false, b"a");
+    assert_eq!(filled(&[b'a'; 56]), Ok(ClientPublish::NoDecision));
+    assert_eq!(filled(&[b'a'; 57]), Err(at(Refusal::FilledTooLong, 5)));
+}
+
+#[test]
+fn expiry() {
+    let time = |seconds, nanoseconds| Time { seconds, nanoseconds };
+    assert_eq!(expired(None, time(u64::MAX, 999_999_999)), Ok(false));
+    assert_eq!(expired(Some(time(9, 5)), time(9, 5)), Ok(false));
+    assert_eq!(expired(Some(time(9, 5)), time(9, 6)), Ok(true));
+    assert_eq!(expired(Some(time(9, 5)), time(9, 4)), Ok(false));
+    assert_eq!(expired(Some(time(9, 999_999_999)), time(10, 0)), Ok(true));
+    assert_eq!(expired(Some(time(u64::MAX, 0)), time(0, 0)), Ok(false));
+}
+
+#[test]
+fn refusals_are_told_in_words() {
+    assert_eq!(Refusal::NotARule.to_string(), "error 6: not a rule");
+    assert_eq!(at(Refusal::NotARule, 3).to_string(), "error 6: not a rule, line 3");
+    assert_eq!(at(Refusal::Counts, 0).to_string(), "error 4: a count or the store's length is out of range");
+    let secret = Client { password: Some(b"pw"), ..G7 };
+    assert!(!format!("{secret:?}").contains("password"));
+    assert_eq!(format!("{:?}", opened(EXAMPLE)), "Store { length: 47888, .. }");
+}
