@@ -115,6 +115,31 @@ static void places(void) {
     CHECK(acl_ask_document(acl_string("[]")) && acl_ask_rule_refusal(acl_string("[]")) == ACL_NOT_A_RULE);
 }
 
+/* An absent text is not an empty one, an absent protocol not 0, whatever else is given. Connect always has a protocol. */
+static void absent(void) {
+    static uint8_t store[16 + 256 + 326 + 260 + 260];
+    const acl_counts counts = {256, 1, 1, 1};
+    const acl_text lent = acl_bytes(store, sizeof store), topic = acl_string("t");
+    const char *const rules[] = {"[\"allow\",{\"user\":\"\"}]", "[\"allow\",{\"user\":\"x\",\"password\":\"\"}]",
+                                 "[\"allow\",{\"ipaddr\":\"\"}]", "[\"allow\",{\"protocol\":0}]"};
+    for (int r = 0; r < 4; r++)
+        for (unsigned given = 0; given < 2; given++) {
+            acl_client c = {{"-", 1}, {"x", 1}, {"y", 1}, {"z", 1}, true, 3};
+            if (r == 0) c.name = given ? acl_string("") : acl_absent();
+            if (r == 1) c.password = given ? acl_string("") : acl_absent();
+            if (r == 2) c.address = given ? acl_string("") : acl_absent();
+            if (r == 3) {
+                c.has_protocol = given;
+                c.protocol = 0;
+            }
+            CHECK(acl_tell_open(store, sizeof store, counts, acl_string(rules[r])) == 0);
+            CHECK(acl_ask_identity(acl_string(rules[r]), &c) == given);
+            CHECK(acl_answer_allows(acl_ask_connect(lent, 0, &c)) == (given || r == 3));
+            CHECK(acl_answer_allows(acl_ask_subscribe(lent, 0, &c, topic, 0)) == given);
+            CHECK(acl_answer_allows(acl_ask_publish(lent, 0, &c, topic, false)) == given);
+        }
+}
+
 /* Who, what and how, of the per-client calls; id and name of an event. */
 static void clients(void) {
     const acl_text id = acl_string("i"), name = acl_string("n");
@@ -152,6 +177,7 @@ int main(void) {
     lengths();
     nulls();
     places();
+    absent();
     clients();
     printf("acl.h: %lu checks hold\n", checks);
     return 0;

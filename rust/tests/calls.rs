@@ -101,25 +101,35 @@ fn each_text_to_its_place() {
             assert_eq!(published == Publish::Allow { rule: 1 }, agrees);
         }
     }
-    // Absent is neither empty nor 0.
-    let empty = br#"["allow",{"user":"","password":""}]"#;
-    let given = Client { name: Some(b""), password: Some(b""), ..none };
-    assert_eq!(identity(empty, given, None), Identity::Agrees { superuser: false });
-    assert_eq!(identity(empty, Client { password: None, ..given }, None), Identity::Differs);
-    assert_eq!(identity(empty, Client { name: None, ..given }, None), Identity::Differs);
-    let zero = br#"["allow",{"protocol":256}]"#;
-    assert_eq!(identity(zero, none, Some(0)), Identity::Agrees { superuser: false });
-    assert_eq!(identity(zero, none, None), Identity::Differs);
-    assert_eq!(
-        opened(zero).publish(0, none, None, b"t", false),
-        Ok(Publish::Refuse { rule: 0, disconnect: false })
-    );
     let root = br#"["allow",{"user":"x","superuser":true}]"#;
-    assert_eq!(
-        identity(root, Client { name: Some(b"x"), ..none }, None),
-        Identity::Agrees { superuser: true }
-    );
+    let named = Client { name: Some(b"x"), ..none };
+    assert_eq!(identity(root, named, None), Identity::Agrees { superuser: true });
     assert_eq!(identity(b"[]", none, None), Identity::NoRule);
+}
+
+/// An absent text is not an empty one, an absent protocol not 0, whatever else is given.
+#[test]
+fn absent_is_not_empty() {
+    let all = Client { id: b"-", name: Some(b"x"), password: Some(b"y"), address: Some(b"z") };
+    let empty = |given: bool| -> Option<&[u8]> { given.then_some(b"") };
+    for given in [false, true] {
+        let cases: [(&[u8], Client<'_>, Option<u8>); 4] = [
+            (br#"["allow",{"user":""}]"#, Client { name: empty(given), ..all }, Some(3)),
+            (br#"["allow",{"user":"x","password":""}]"#, Client { password: empty(given), ..all }, Some(3)),
+            (br#"["allow",{"ipaddr":""}]"#, Client { address: empty(given), ..all }, Some(3)),
+            (br#"["allow",{"protocol":256}]"#, all, given.then_some(0)),
+        ];
+        for (rule, client, protocol) in cases {
+            let store = opened(rule);
+            assert_eq!(identity(rule, client, protocol) == Identity::Agrees { superuser: false }, given);
+            let connected = store.connect(0, client, protocol.unwrap_or(3)).unwrap();
+            assert_eq!(connected == Connect::Allow { rule: 1, superuser: false }, given);
+            let subscribed = store.subscribe(0, client, protocol, b"t", 1).unwrap();
+            assert_eq!(subscribed == Subscribe::Allow { rule: 1, qos: 1 }, given);
+            let published = store.publish(0, client, protocol, b"t", false).unwrap();
+            assert_eq!(published == Publish::Allow { rule: 1 }, given);
+        }
+    }
 }
 
 /// 1 to 10, each once, and the store as it was.
