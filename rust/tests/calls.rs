@@ -105,6 +105,11 @@ fn each_text_to_its_place() {
     let named = Client { name: Some(b"x"), ..none };
     assert_eq!(identity(root, named, None), Identity::Agrees { superuser: true });
     assert_eq!(identity(b"[]", none, None), Identity::NoRule);
+    // An identity has no lengths to refuse; the whole text counts.
+    let long = [br#"["allow",{"user":""#.as_slice(), &[b'a'; 64], br#""}]"#].concat();
+    let of = |length: usize| identity(&long, Client { name: Some(&[b'a'; 129][..length]), ..none }, None);
+    assert_eq!(of(64), Identity::Agrees { superuser: false });
+    assert_eq!([63, 65, 129].map(of), [Identity::Differs; 3]);
 }
 
 /// An absent text is not an empty one, an absent protocol not 0, whatever else is given.
@@ -337,7 +342,9 @@ fn a_client_s_own_rules() {
 
     // Refusals of a line come before the superuser.
     let with = |rules| AuthInfo { rules, ..root }.subscribe(0, b"a");
-    assert_eq!(AuthInfo { name: None, ..root }.subscribe(0, b"a"), Err(at(Refusal::NotARule, 2)));
+    let nameless = AuthInfo { name: None, ..root };
+    assert_eq!(nameless.subscribe(0, b"a"), Err(at(Refusal::NotARule, 2)));
+    assert_eq!(nameless.publish(0, false, true, b"a"), Err(at(Refusal::NotARule, 2)));
     assert_eq!(with(b"\n"), Err(at(Refusal::NotJson, 1)));
     assert_eq!(with(&[b' '; 2_049]), Err(at(Refusal::TooLong, 1)));
     assert_eq!(with(&[b' '; 32_769]), Err(at(Refusal::TooLong, 0)));
