@@ -10,8 +10,8 @@
    What the caller owes, since no proof reaches it:
    - an address from which as many bytes as the length says can be read (a store for acl_open and events: written). The length is at
      most PTRDIFF_MAX. Where it is 0 the address may be any but NULL, and nothing is read from it;
-   - never NULL, whatever the length: the library takes an address to be one, and a NULL is undefined behaviour there, with length 0
-     too, and also where the flag before it is false. The inline calls below (acl_ask_.., acl_tell_..) take NULL;
+   - never NULL: the functions are proved of addresses that aren't, and with one that is nothing is promised, not with length 0 either,
+     nor where the flag before it is false. The inline calls below (acl_ask_.., acl_tell_..) take NULL and hand over another address;
    - a bool that is 0 or 1, as every conversion to C's bool gives;
    - nothing else that is lent overlaps the store that acl_open or an event writes. Texts may overlap one another, and in a question
      a text may lie in the store.

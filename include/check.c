@@ -39,6 +39,9 @@ static void unpacks(void) {
             CHECK(acl_open_refusal(number + 256 * line) == number && acl_open_line(number + 256 * line) == line);
         }
     CHECK(acl_open_refusal(0) == 0);
+    static const char *const words[] = {"error", "kept", "allow", "super", "allow", "allow", "allow", "allow",
+                                        "refuse", "refuse", "drop", "refuse", "none", "valid", "expired"};
+    for (unsigned what = 0; what < 15; what++) CHECK(strcmp(acl_answer_word(16 * 256 + what), words[what]) == 0);
 }
 
 static void lengths(void) {
