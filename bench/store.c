@@ -61,7 +61,7 @@ static void make(unsigned R, unsigned F, unsigned E, unsigned N, unsigned count,
 
 /* A question of client g1; a kept code is answered once the store is checked. */
 static uint32_t asks(const char *name, unsigned earlier) {
-    return acl_publish(store, length, earlier, (Text) "g1", 2, true, (Text)name, strlen(name), false, NULL, 0, false, NULL, 0, true, 4,
+    return acl_publish(store, length, earlier, (Text) "g1", 2, true, (Text)name, strlen(name), false, (Text) "", 0, false, (Text) "", 0, true, 4,
                        (Text) "bench/g1/set1", 13, true);
 }
 
