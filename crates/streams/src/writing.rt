@@ -24,7 +24,7 @@ pub fn flush(output: i32, out: &[u8], waiting: usize) {
 }
 
 // The line of output for the line of input with this number, behind those that wait; hands back how many bytes wait then.
-pub fn put(output: i32, out: &mut [u8], waiting: usize, number: u64, said: Said) -> usize {
+pub(crate) fn put(output: i32, out: &mut [u8], waiting: usize, number: u64, said: Said) -> usize {
     if let Put::End(end) = put_line(number, said, out, waiting) {
         return end;
     }
@@ -61,7 +61,7 @@ pub fn start(headed: bool) -> Run {
 }
 
 // What is said of the next line.
-pub fn say(mut run: Run, output: i32, out: &mut [u8], said: Said) -> Run {
+pub(crate) fn say(mut run: Run, output: i32, out: &mut [u8], said: Said) -> Run {
     run.number = std::num::wrapping_add_u64(run.number, 1);
     run.waiting = put(output, out, run.waiting, run.number, said);
     let next = no_line();
