@@ -1,14 +1,14 @@
 -- Laws of lines by their places: the line at a place, and the lines behind it. Assumes nothing.
-use Prim.Native.Nat.{ℕ, suc, _+_, _-_, _≤_, _<_}
+use Prim.Native.Nat.{ℕ, zero, suc, _+_, _-_, _≤_, _<_}
 use native.Mathlib.Numerals.{add-one}
 use native.Mathlib.Omega.{arith}
 use mathlib.Core.Path.{_≡_, refl, sym, ap}
-use mathlib.Core.Bool.{Bool, true, false, cond}
+use mathlib.Core.Bool.{Bool, true, false, _&&_, not, cond}
 use mathlib.Core.List.{List, [], _∷_}
-use lib.Dec.{eqb, ltb}
+use lib.Dec.{eqb, leb, ltb, leb·zero, leb·suc-zero, leb·suc-suc}
 use lib.ListN.{length, getD, take, drop, length-drop, drop-of-length-le}
-use lib.Seq.{drop-cons, drop-drop}
-use borrow.Author.Tests.{eq-eqb, ne-eqb, ltb-true, ltb-false}
+use lib.Seq.{drop-cons, drop-drop, getD-drop}
+use borrow.Author.Tests.{eq-eqb, ne-eqb, leb-true, ltb-true, ltb-false}
 use Rattle.json.specs.Lines.{lf, extendLine, withByte, lines, firstLine, lineAt, nextLine, countUpTo}
 
 -- past the text there is no line
@@ -29,6 +29,45 @@ pub end-onward : (text : List ℕ) (at : ℕ) → at < length text → (getD tex
     at + length (lineAt text at) ≡ at + 1 + length (lineAt text (at + 1))
 unfolding lineAt firstLine
 end-onward text at h e = rw (add-one, drop-cons text at 0 h, ne-eqb (getD text at 0) lf e) (omega arith)
+
+-- a line is longer than `i` bytes if it has as many and the next is no LF
+first-longer : (text : List ℕ) (i : ℕ) → i < length text
+    → (leb i (length (firstLine text)) && not (eqb (getD text i 0) lf)) ≡ leb (suc i) (length (firstLine text))
+unfolding firstLine
+first-longer [] i h = absurd (omega arith)
+first-longer (b ∷ text) zero h = at (eqb b lf)
+  where
+    at : (e : Bool) → (leb 0 (length (cond e [] (b ∷ firstLine text))) && not e) ≡ leb 1 (length (cond e [] (b ∷ firstLine text)))
+    at true = refl
+    at false = rw (leb·zero (suc (length (firstLine text))), leb·suc-suc 0 (length (firstLine text))) (sym (leb·zero (length (firstLine text))))
+first-longer (b ∷ text) (suc i) h = at (eqb b lf) (first-longer text i (omega arith))
+  where
+    at : (e : Bool) → (leb i (length (firstLine text)) && not (eqb (getD text i 0) lf)) ≡ leb (suc i) (length (firstLine text))
+        → (leb (suc i) (length (cond e [] (b ∷ firstLine text))) && not (eqb (getD text i 0) lf))
+        ≡ leb (suc (suc i)) (length (cond e [] (b ∷ firstLine text)))
+    at true k = rw (leb·suc-zero i, leb·suc-zero (suc i))
+    at false k = rw (leb·suc-suc i (length (firstLine text)), leb·suc-suc (suc i) (length (firstLine text))) k
+
+pub line-longer : (text : List ℕ) (at i : ℕ) → at + i < length text
+    → (leb i (length (lineAt text at)) && not (eqb (getD text (at + i) 0) lf)) ≡ leb (i + 1) (length (lineAt text at))
+unfolding lineAt
+line-longer text at i h = rw (add-one, ← getD-drop) (first-longer (drop at text) i (omega (arith, length-drop at text)))
+
+-- a place of a line is one from which it goes on to the same end
+first-onward : (text : List ℕ) (n : ℕ) → n ≤ length (firstLine text) → n + length (firstLine (drop n text)) ≡ length (firstLine text)
+unfolding firstLine
+first-onward text zero h = omega arith
+first-onward [] (suc n) h = absurd (omega arith)
+first-onward (b ∷ text) (suc n) h = at (eqb b lf) (first-onward text n) h
+  where
+    at : (e : Bool) → (n ≤ length (firstLine text) → n + length (firstLine (drop n text)) ≡ length (firstLine text))
+        → suc n ≤ length (cond e [] (b ∷ firstLine text)) → suc n + length (firstLine (drop n text)) ≡ length (cond e [] (b ∷ firstLine text))
+    at true k h = absurd (omega arith)
+    at false k h = omega (arith, k (omega arith))
+
+pub end-later : (text : List ℕ) (at n : ℕ) → leb n (length (lineAt text at)) ≡ true → at + n + length (lineAt text (at + n)) ≡ at + length (lineAt text at)
+unfolding lineAt
+end-later text at n h = omega (arith, rw drop-drop at (first-onward (drop at text) n (leb-true n (length (firstLine (drop at text))) h)))
 
 -- a line is what stands from its place up to where it ends, within the text
 first-part : (text : List ℕ) → take (length (firstLine text)) text ≡ firstLine text

@@ -12,13 +12,22 @@ use Rattle.json.proofs.splitting.line_end.Statement.{statement}
 use Rattle.json.proofs.splitting.line_end.Tie as tie
 
 abbrev Inv-loop : tie.InvT-loop
-Inv-loop text at i₀ i = i + length (lineAt text i) ≡ at + length (lineAt text at)
+Inv-loop text at long half i₀ i = i + length (lineAt text i) ≡ at + length (lineAt text at)
 
 abbrev μ-loop : tie.MeasureT-loop
-μ-loop text at i₀ i = length text - i
+μ-loop text at long half i₀ i = length text - i
+
+past-stretches-requires : tie.Need-past-stretches-requires Inv-loop μ-loop
+past-stretches-requires c κs = search needs
+
+past-requires : tie.Need-past-requires Inv-loop μ-loop
+past-requires c κs = search needs
+
+past-requires-2 : tie.Need-past-requires-2 Inv-loop μ-loop
+past-requires-2 c κs = search needs
 
 loop-holds : tie.Need-loop-holds Inv-loop μ-loop
-loop-holds c = refl
+loop-holds c = c .past2 .ensures ∙ (c .before .past .ensures ∙ c .before .before .past-stretches .ensures)
 
 shared-slice-read-if1 : tie.Need-shared-slice-read-if1 Inv-loop μ-loop
 shared-slice-read-if1 c = search needs
@@ -26,7 +35,7 @@ shared-slice-read-if1 c = search needs
 returns : tie.Need-returns Inv-loop μ-loop
 returns c =
     let at = c .before .before .before in
-    sym (end-lf (now (at .before .args .text)) (at .loop .i) (omega arith) (c .if1 .taken)) ∙ at .loop .inv
+    sym (end-lf (now (at .before .before .before .before .before .args .text)) (at .loop .i) (omega arith) (c .if1 .taken)) ∙ at .loop .inv
 
 add-i : tie.Need-add-i Inv-loop μ-loop
 add-i c = search needs
@@ -37,12 +46,12 @@ loop-less c = search needs
 loop-again : tie.Need-loop-again Inv-loop μ-loop
 loop-again c =
     let at = c .before .before .before in
-    sym (end-onward (now (at .before .args .text)) (at .loop .i) (omega arith) (c .if1 .left)) ∙ at .loop .inv
+    sym (end-onward (now (at .before .before .before .before .before .args .text)) (at .loop .i) (omega arith) (c .if1 .left)) ∙ at .loop .inv
 
 returns-2 : tie.Need-returns-2 Inv-loop μ-loop
 returns-2 c =
     let at = c .before in
-    sym (end-past (now (at .before .args .text)) (at .loop .i) (c .loop-test .left)) ∙ at .loop .inv
+    sym (end-past (now (at .before .before .before .before .before .args .text)) (at .loop .i) (c .loop-test .left)) ∙ at .loop .inv
 
 pub line-end-spec : {M : Type 1} → statement M
 line-end-spec =
@@ -50,6 +59,9 @@ line-end-spec =
     (tie.spec
     Inv-loop
     μ-loop
+    past-stretches-requires
+    past-requires
+    past-requires-2
     loop-holds
     shared-slice-read-if1
     returns
