@@ -162,6 +162,12 @@ pub lines-here : (text : List ℕ) (at : ℕ) → at < length text → lines (dr
 unfolding lineAt
 lines-here text at h = rw (← next-drop text at, drop-cons text at 0 h) (lines-first (getD text at 0) (drop (suc at) text))
 
+-- the same by the place behind the line's end, which may be past the text
+pub lines-behind : (text : List ℕ) (at : ℕ) → at < length text → lines (drop at text) ≡ lineAt text at ∷ lines (drop (at + length (lineAt text at) + 1) text)
+lines-behind text at h =
+    let same : at + suc (length (lineAt text at)) ≡ at + length (lineAt text at) + 1 = omega arith in
+    rw (← next-drop text at, drop-drop, same) at (lines-here text at h)
+
 -- what a count that has come to `n` at a place tells of the number of lines
 pub record Counted (text : List ℕ) (most n at : ℕ) : Type 0 where
   pub passed : n ≤ at

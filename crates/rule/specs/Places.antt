@@ -19,7 +19,7 @@ use Rattle.json.specs.declared.Found.{Found}
 use Rattle.json.specs.declared.Found.the-variants.{Is as FoundIs, Absent as NotFound}
 use Rattle.json.specs.declared.Truth.{Truth}
 use Rattle.json.specs.declared.Truth.the-variants.{Holds, Unknown}
-use Rattle.rule.specs.Limits.{textLimit, idLimit, topicsLimit}
+use Rattle.rule.specs.Limits.{textLimit, idLimit, topicsLimit, linesLimit}
 use Rattle.rule.specs.Rule as spec
 use Rattle.rule.specs.Rule.{Located, Value, isWord, isTemplate, asText, asNumber, asBool, asObject, member-named, nth}
 use Rattle.rule.specs.Fill.{fill}
@@ -53,6 +53,8 @@ use Rattle.rule.specs.declared.RuleRead.the-variants.{Rule as RuleIs, Re
 use Rattle.rule.specs.declared.Parts.{Parts}
 use Rattle.rule.specs.declared.TextRead.{TextRead}
 use Rattle.rule.specs.declared.TextRead.the-variants.{Fine, Faulty}
+use Rattle.rule.specs.declared.RulesCounted.{RulesCounted}
+use Rattle.rule.specs.declared.RulesCounted.the-variants.{Rules, Faulty as RulesFaulty}
 use Rattle.rule.specs.declared.Given.{Given}
 use Rattle.rule.specs.declared.Given.the-variants.{Absent, Length}
 use Rattle.rule.specs.declared.Filling.{Filling}
@@ -214,6 +216,15 @@ ruleAnswer topics (gives r) = RuleIs (placedRule topics r)
 unfoldable pub textAnswer : Option Fault → TextRead
 textAnswer none = Fine
 textAnswer (some f) = Faulty (f .cause) (f .line)
+
+-- the number of a text's rules, or its fault
+unfoldable pub rulesAnswer : ℕ → Option Fault → RulesCounted
+rulesAnswer n none = Rules n
+rulesAnswer n (some f) = RulesFaulty (f .cause) (f .line)
+
+-- a faulty line of a text with so many lines: "over 256 lines (line 257). Then the first faulty line"
+unfoldable pub faultyLine : ℕ → Refusal → ℕ → RulesCounted
+faultyLine lines cause line = cond (ltb linesLimit lines) (RulesFaulty TooLong (suc linesLimit)) (RulesFaulty cause line)
 
 -- filling: the template of a rule has at most 256 bytes and a client id at most 64; where one is longer, the answer is 'too long'
 unfoldable pub fillable : List ℕ → List ℕ → Bool

@@ -168,6 +168,12 @@ pub enum TextRead {
     Faulty(Refusal, usize),
 }
 
+// A rule text: the number of its rules, or its first fault, as `TextRead` has it.
+pub enum RulesCounted {
+    Rules(usize),
+    Faulty(Refusal, usize),
+}
+
 // A filled template: its length, or that it is longer than the buffer.
 pub enum Filling {
     Length(usize),

@@ -7,6 +7,7 @@ use crate::Parts;
 use crate::Refusal;
 use crate::Rule;
 use crate::RuleRead;
+use crate::RulesCounted;
 use crate::TEXT;
 use crate::TOPICS;
 use crate::TextRead;
@@ -26,12 +27,15 @@ use json::access::count_elements;
 use json::access::first_element;
 use json::access::next_item;
 use json::splitting::count_lines;
-use json::splitting::line_at;
-use json::splitting::next_line;
+use json::splitting::line_end;
 use json::values::check;
 use json::values::skip_blanks;
 ghost use mathlib.Core.Path.{_≡_};
+ghost use Prim.Native.Nat.{_+_, _≤_};
+ghost use lib.ListN.{length, drop};
 ghost use Rattle.json.specs.Json.{lineValue};
+ghost use Rattle.json.specs.Lines.{lines};
+ghost use Rattle.rule.specs.Limits.{linesLimit};
 ghost use Rattle.rule.specs.Rule as rule;
 ghost use Rattle.rule.specs.RuleText as text_spec;
 ghost use Rattle.rule.specs.Places as spec;
@@ -164,25 +168,49 @@ pub fn read_rule(line: &[u8]) -> RuleRead
     }
 }
 
-// A rule text: over 256 lines, or its first faulty line, or none.
-pub fn check_text(text: &[u8]) -> TextRead
-    ensures { λ r. ⌜ r ≡ spec.textAnswer (text_spec.textFault (now (text .entry))) ⌝ }
+// What a faulty line, which begins at `at` behind `n` rules, is answered by: over 256 lines come first in document 01's order.
+fn faulty_line(text: &[u8], at: usize, n: usize, cause: Refusal) -> RulesCounted
+    requires { ⌜ at ≤ length (now text) ⌝ }
+    requires { ⌜ n ≤ linesLimit ⌝ }
+    ensures { λ r. ⌜ r ≡ spec.faultyLine (n + length (lines (drop at (now (text .entry))))) cause (n + 1) ⌝ }
 {
-    if LINES < count_lines(text, LINES) {
-        return TextRead::Faulty(Refusal::TooLong, LINES + 1);
+    let most = LINES - n;
+    if most < count_lines(&text[at..], most) {
+        return RulesCounted::Faulty(Refusal::TooLong, LINES + 1);
     }
-    let mut n = 1;
+    RulesCounted::Faulty(cause, n + 1)
+}
+
+// The rules of a text, in one pass over its lines.
+pub fn count_rules(text: &[u8]) -> RulesCounted
+    ensures { λ r. ⌜ r ≡ spec.rulesAnswer (length (lines (now (text .entry)))) (text_spec.textFault (now (text .entry))) ⌝ }
+{
+    let mut n = 0;
     let mut at = 0;
     while at < text.len() {
-        match read_rule(line_at(text, at)) {
+        if n == LINES {
+            return RulesCounted::Faulty(Refusal::TooLong, LINES + 1);
+        }
+        let end = line_end(text, at);
+        match read_rule(&text[at..end]) {
             RuleRead::Refused(cause) => {
-                return TextRead::Faulty(cause, n);
+                return faulty_line(text, at, n, cause);
             }
             RuleRead::Rule(_) => {
-                at = next_line(text, at);
+                at = end + 1;
                 n += 1;
             }
         }
     }
-    TextRead::Fine
+    RulesCounted::Rules(n)
+}
+
+// A rule text: over 256 lines, or its first faulty line, or none.
+pub fn check_text(text: &[u8]) -> TextRead
+    ensures { λ r. ⌜ r ≡ spec.textAnswer (text_spec.textFault (now (text .entry))) ⌝ }
+{
+    match count_rules(text) {
+        RulesCounted::Rules(_) => TextRead::Fine,
+        RulesCounted::Faulty(cause, line) => TextRead::Faulty(cause, line),
+    }
 }
