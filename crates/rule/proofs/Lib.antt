@@ -12,3 +12,4 @@ pub mod StandsLaws
 pub mod FourthLaws
 pub mod Marked
 pub mod OnePassLaws
+pub mod FrontLaws

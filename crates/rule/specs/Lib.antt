@@ -8,3 +8,4 @@ pub mod Places
 pub mod Agreement
 pub mod Members
 pub mod OnePass
+pub mod Front

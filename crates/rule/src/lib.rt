@@ -1,5 +1,6 @@
 // Plugin rules, read from lines of JSON, and whom they mean (document 01, Plugin rule and Identity; config.rs).
 pub mod agreement;
+pub mod ahead;
 pub mod fill;
 pub mod listed;
 mod one_pass;
@@ -92,6 +93,24 @@ pub enum MembersPassed {
 // The users and the place behind them, of a value that was passed over; or that it was not.
 pub enum UsersPassed {
     Users(Users, usize),
+    Unread,
+}
+
+// The access of a line and the place of its users; or that it was not read.
+pub enum AccessPassed {
+    Access(bool, usize),
+    Unread,
+}
+
+// A line up to its users: the access, the users and the place behind them; or that they were not read.
+pub enum Front {
+    Users(bool, Users, usize),
+    Unread,
+}
+
+// The control and the topics behind a line's users; or that they were not read.
+pub enum Rest {
+    Rest(Control, Topics),
     Unread,
 }
 

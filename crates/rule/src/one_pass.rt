@@ -1,5 +1,6 @@
 // A rule from its line in one pass, where its words are plain: each value is passed over once, as it is read. Whatever such a rule has
 // not is left to the caller, which reads the line step by step; so nothing here refuses a line.
+use crate::AccessPassed;
 use crate::Control;
 use crate::ControlRead;
 use crate::MemberPlaces;
@@ -36,6 +37,7 @@ ghost use Rattle.topic.specs.Topic.{validFilter};
 ghost use Rattle.rule.specs.Rule as rule;
 ghost use Rattle.rule.specs.OnePass as spec;
 ghost use Rattle.rule.specs.Members as members;
+ghost use Rattle.rule.specs.Front as front;
 ghost use Rattle.text.specs.Text.{same};
 ghost use Rattle.json.specs.declared.Place.the-variants.{At};
 
@@ -291,7 +293,7 @@ fn members_end(line: &[u8], at: usize) -> MembersPassed
 }
 
 // The users at this place, and the place behind them.
-fn users_end(line: &[u8], allow: bool, at: usize) -> UsersPassed
+pub(crate) fn users_end(line: &[u8], allow: bool, at: usize) -> UsersPassed
     ensures { λ r. ⌜ members.WhereUsers r (members.UsersTo (now (line .entry)) allow at) ⌝ }
 {
     if let MembersPassed::Places(places, end) = members_end(line, at) {
@@ -336,24 +338,34 @@ fn from_users(line: &[u8], allow: bool, at: usize) -> RuleRead
     }
 }
 
+// The access of the line, if it is a plain word, and the place of the users.
+pub(crate) fn access_end(line: &[u8]) -> AccessPassed
+    ensures { λ r. ⌜ front.WhereAccess r (front.AccessTo (now (line .entry))) ⌝ }
+{
+    let first = skip_blanks(line, 0);
+    if !is_at(line, first, b'[') {
+        return AccessPassed::Unread;
+    }
+    let access = skip_blanks(line, first + 1);
+    let Place::At(end) = plain_text(line, access) else {
+        return AccessPassed::Unread;
+    };
+    let Separator::Comma(users) = separator(line, end + 1, b']') else {
+        return AccessPassed::Unread;
+    };
+    match word_of(&line[access + 1..end]) {
+        Word::Allow => AccessPassed::Access(true, users),
+        Word::Deny => AccessPassed::Access(false, users),
+        _ => AccessPassed::Unread,
+    }
+}
+
 // The rule of the line, if this is one to be read in one pass.
 pub fn in_one_pass(line: &[u8]) -> RuleRead
     ensures { λ r. ⌜ spec.WhereRule r (spec.IsRule (now (line .entry))) ⌝ }
 {
-    let first = skip_blanks(line, 0);
-    if !is_at(line, first, b'[') {
-        return RuleRead::Refused(Refusal::NotARule);
-    }
-    let access = skip_blanks(line, first + 1);
-    let Place::At(end) = plain_text(line, access) else {
+    let AccessPassed::Access(allow, users) = access_end(line) else {
         return RuleRead::Refused(Refusal::NotARule);
     };
-    let Separator::Comma(users) = separator(line, end + 1, b']') else {
-        return RuleRead::Refused(Refusal::NotARule);
-    };
-    match word_of(&line[access + 1..end]) {
-        Word::Allow => from_users(line, true, users),
-        Word::Deny => from_users(line, false, users),
-        _ => RuleRead::Refused(Refusal::NotARule),
-    }
+    from_users(line, allow, users)
 }

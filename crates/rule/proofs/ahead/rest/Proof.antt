@@ -1,0 +1,48 @@
+-- By what stands behind the users: a control, or the end of the array. Assumes nothing.
+use mathlib.Core.Path.{sym, _∙_}
+use denote.Ref.{now}
+use Rattle.rule.proofs.FrontLaws.{rest-map, rest-none, rest-word}
+use borrow.Author.Needs.{needs}
+use Rattle.rule.proofs.ahead.rest.Statement.{statement}
+use Rattle.rule.proofs.ahead.rest.Tie as tie
+
+separator-requires : tie.Need-separator-requires
+separator-requires c κs = search needs
+
+enum-told : tie.Need-enum-told
+enum-told c = search needs
+
+enum-told-2 : tie.Need-enum-told-2
+enum-told-2 c = search needs
+
+enum-known-p : tie.Need-enum-known-p
+enum-known-p c = search needs
+
+from-word-requires : tie.Need-from-word-requires
+from-word-requires c κs = search needs
+
+returns : tie.Need-returns
+returns c =
+    let a = c .before .before .before .before .args in
+    rest-none (now (a .line)) (a .at) (sym (c .before .before .separator .ensures) ∙ c .enum-told .given .1)
+
+returns-2 : tie.Need-returns-2
+returns-2 c = search needs
+
+returns-3 : tie.Need-returns-3
+returns-3 c =
+    let a = c .before .before .before .before .before .before .args in
+    rest-map (c .from-word .result) (λ control topics h. rest-word (now (a .line)) (a .at) (sym (c .before .before .before .before .separator .ensures) ∙ c .before .before .p .given .1) h) (c .from-word .ensures)
+
+pub rest-spec : {M : Type 1} → statement M
+rest-spec =
+    tie.close
+    (tie.spec
+    separator-requires
+    enum-told
+    enum-told-2
+    enum-known-p
+    from-word-requires
+    returns
+    returns-2
+    returns-3)

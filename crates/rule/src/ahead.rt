@@ -1,0 +1,59 @@
+// A rule's line from its front, no further than is asked: access and users, then control and the place of the topics. A caller who knows
+// that the line is a rule need not read on where the users differ. Where a word isn't plain nothing is answered.
+use crate::AccessPassed;
+use crate::Control;
+use crate::ControlRead;
+use crate::Front;
+use crate::Rest;
+use crate::Topics;
+use crate::UsersPassed;
+use crate::one_pass::access_end;
+use crate::one_pass::users_end;
+use crate::words::control_of;
+use crate::words::word_of;
+use json::Place;
+use json::Separator;
+use json::access::plain_text;
+use json::values::separator;
+ghost use Rattle.rule.specs.Front as spec;
+
+// The access and the users of the line, and the place behind them.
+pub fn front(line: &[u8]) -> Front
+    ensures { λ r. ⌜ spec.WhereFront r (spec.FrontTo (now (line .entry))) ⌝ }
+{
+    let AccessPassed::Access(allow, at) = access_end(line) else {
+        return Front::Unread;
+    };
+    let UsersPassed::Users(users, end) = users_end(line, allow, at) else {
+        return Front::Unread;
+    };
+    Front::Users(allow, users, end)
+}
+
+// The control and the topics behind users that end before this place.
+pub fn rest(line: &[u8], at: usize) -> Rest
+    ensures { λ r. ⌜ spec.WhereRest r (spec.RestFrom (now (line .entry)) at) ⌝ }
+{
+    match separator(line, at, b']') {
+        Separator::Close(_) => Rest::Rest(Control::All, Topics::All),
+        Separator::Neither => Rest::Unread,
+        Separator::Comma(p) => from_word(line, p),
+    }
+}
+
+// The same, from the control's place on.
+fn from_word(line: &[u8], at: usize) -> Rest
+    ensures { λ r. ⌜ spec.WhereRest r (spec.WordFrom (now (line .entry)) at) ⌝ }
+{
+    let Place::At(end) = plain_text(line, at) else {
+        return Rest::Unread;
+    };
+    let ControlRead::Is(control) = control_of(word_of(&line[at + 1..end])) else {
+        return Rest::Unread;
+    };
+    match separator(line, end + 1, b']') {
+        Separator::Comma(next) => Rest::Rest(control, Topics::Listed(next)),
+        Separator::Close(_) => Rest::Rest(control, Topics::All),
+        Separator::Neither => Rest::Unread,
+    }
+}
