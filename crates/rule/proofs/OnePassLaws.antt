@@ -66,9 +66,9 @@ unfolding valueOf bind
 value-there depth line at h e = ap (λ (o : Option (Read Json)). bind o (λ r. some (record { at = at; value = r .value }))) (value-deeper depth depthLimit line at h e)
 
 -- the value that a step passes over
-pub part-read : (line : List ℕ) (at before : ℕ) {c : Cursor} → stepped longest before (valueAt 6 line at) ≡ Next c → c .longest ≤ textLimit → PartTo line at before (c .at)
-part-read line at before v h =
-    let r = items.stepped-some longest before (valueAt 6 line at) v in
+pub part-read : (depth : ℕ) (line : List ℕ) (at before : ℕ) {c : Cursor} → stepped longest before (valueAt depth line at) ≡ Next c → c .longest ≤ textLimit → PartTo depth line at before (c .at)
+part-read depth line at before v h =
+    let r = items.stepped-some longest before (valueAt depth line at) v in
     record { value = r .value; reads = r .is; within = omega (arith, r .long); short = omega (arith, r .long) }
 
 -- ---- topics
@@ -209,15 +209,15 @@ name-read line at {end} {p} s e =
     by false q = let z : _≡_ {A = ℕ} 0 1 = cc in absurd (omega arith)
 
 -- a member that was read: its name, the place of its value and the place behind it
-pub record MemberAt (line : List ℕ) (at : ℕ) (name : List ℕ) (p end : ℕ) : Type 0 where
+pub record MemberAt (depth : ℕ) (line : List ℕ) (at : ℕ) (name : List ℕ) (p end : ℕ) : Type 0 where
   pub value : Json
   pub named : nameAt line at ≡ some (record { value = name; next = p })
-  pub reads : valueAt 6 line p ≡ some (record { value = value; next = end })
+  pub reads : valueAt depth line p ≡ some (record { value = value; next = end })
   pub short-name : length name ≤ textLimit
   pub short : longest value ≤ textLimit
 
-pub member-read : (line : List ℕ) (at : ℕ) {end p behind : ℕ} → Plain line at end → valueBehind line (end + 1) ≡ At p → PartTo line p (end - (at + 1)) behind
-    → MemberAt line at (take (end - (at + 1)) (drop (at + 1) line)) p behind
+pub member-read : {depth : ℕ} (line : List ℕ) (at : ℕ) {end p behind : ℕ} → Plain line at end → valueBehind line (end + 1) ≡ At p → PartTo depth line p (end - (at + 1)) behind
+    → MemberAt depth line at (take (end - (at + 1)) (drop (at + 1) line)) p behind
 member-read line at {end} s e v =
     record {
       value = v .value;
@@ -227,25 +227,25 @@ member-read line at {end} s e v =
       short = v .short;
     }
 
-pub member-forward : (line : List ℕ) {at : ℕ} {name : List ℕ} {p end next : ℕ} → MemberAt line at name p end → separatorAt 0x7d line end ≡ Comma next → (at < next) × (next ≤ length line)
-member-forward line {at} {p = p} {end = end} m q = omega (arith, name-next line at (m .named), value-next 6 line p (m .reads), comma-next line end 0x7d q)
+pub member-forward : {depth : ℕ} (line : List ℕ) {at : ℕ} {name : List ℕ} {p end next : ℕ} → MemberAt depth line at name p end → separatorAt 0x7d line end ≡ Comma next → (at < next) × (next ≤ length line)
+member-forward {depth} line {at} {p = p} {end = end} m q = omega (arith, name-next line at (m .named), value-next depth line p (m .reads), comma-next line end 0x7d q)
 
 -- members from a place on, and behind them the closing bracket
-pub record MembersFrom (line : List ℕ) (at : ℕ) (rest : Members) (end : ℕ) : Type 0 where
-  pub reads : membersFrom 6 line at ≡ some (record { value = rest; next = end })
+pub record MembersFrom (depth : ℕ) (line : List ℕ) (at : ℕ) (rest : Members) (end : ℕ) : Type 0 where
+  pub reads : membersFrom depth line at ≡ some (record { value = rest; next = end })
   pub short : longestMember rest ≤ textLimit
 
-pub last-member : (line : List ℕ) {at : ℕ} {name : List ℕ} {p end next : ℕ} (m : MemberAt line at name p end) → separatorAt 0x7d line end ≡ Close next
-    → MembersFrom line at (member at name p (m .value) no-member) next
+pub last-member : {depth : ℕ} (line : List ℕ) {at : ℕ} {name : List ℕ} {p end next : ℕ} (m : MemberAt depth line at name p end) → separatorAt 0x7d line end ≡ Close next
+    → MembersFrom depth line at (member at name p (m .value) no-member) next
 unfolding longestMember
-last-member line {at} m q = record { reads = items.members-last 6 line at (m .named) (m .reads) q; short = omega (arith, m .short-name, m .short) }
+last-member {depth} line {at} m q = record { reads = items.members-last depth line at (m .named) (m .reads) q; short = omega (arith, m .short-name, m .short) }
 
-pub next-member : (line : List ℕ) {at : ℕ} {name : List ℕ} {p end next last : ℕ} {rest : Members} (m : MemberAt line at name p end) → separatorAt 0x7d line end ≡ Comma next
-    → MembersFrom line next rest last → MembersFrom line at (member at name p (m .value) rest) last
+pub next-member : {depth : ℕ} (line : List ℕ) {at : ℕ} {name : List ℕ} {p end next last : ℕ} {rest : Members} (m : MemberAt depth line at name p end) → separatorAt 0x7d line end ≡ Comma next
+    → MembersFrom depth line next rest last → MembersFrom depth line at (member at name p (m .value) rest) last
 unfolding longestMember
-next-member line {at} m q f = record { reads = items.members-more 6 line at (m .named) (m .reads) q (f .reads); short = omega (arith, m .short-name, m .short, f .short) }
+next-member {depth} line {at} m q f = record { reads = items.members-more depth line at (m .named) (m .reads) q (f .reads); short = omega (arith, m .short-name, m .short, f .short) }
 
-pub first-member : (line : List ℕ) (at : ℕ) {first end : ℕ} {rest : Members} → isAt line at 0x7b ≡ true → first ≡ skipBlanks line (at + 1) → MembersFrom line first rest end
+pub first-member : (line : List ℕ) (at : ℕ) {first end : ℕ} {rest : Members} → isAt line at 0x7b ≡ true → first ≡ skipBlanks line (at + 1) → MembersFrom 6 line first rest end
     → MembersTo line at (placesIn rest noPlaces) end
 first-member line at {rest = rest} o f m = record { members = rest; reads = items.object-read 6 line at o f (m .reads); short = m .short; are = refl }
 

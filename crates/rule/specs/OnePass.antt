@@ -29,10 +29,10 @@ abbrev pub WhereRule : RuleRead → (Rule → Type 0) → Type 0
 WhereRule (RuleIs r) holds = holds r
 WhereRule (Refused cause) holds = Unit {0}
 
--- a value inside an element of the line's array that ends before a place: no string of it, nor one of so many bytes, is over the limit
-pub record PartTo (line : List ℕ) (at before end : ℕ) : Type 0 where
+-- a value inside as many brackets that ends before a place: no string of it, nor one of so many bytes, is over the limit
+pub record PartTo (depth : ℕ) (line : List ℕ) (at before end : ℕ) : Type 0 where
   pub value : Json
-  pub reads : valueAt 6 line at ≡ some (record { value = value; next = end })
+  pub reads : valueAt depth line at ≡ some (record { value = value; next = end })
   pub within : before ≤ textLimit
   pub short : longest value ≤ textLimit
 

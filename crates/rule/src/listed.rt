@@ -16,11 +16,24 @@ use json::access::kind_at;
 use json::access::member;
 use json::access::number_value;
 use json::access::truth;
+use json::values::is_at;
+use json::values::skip_blanks;
 ghost use mathlib.Core.Path.{_≡_};
 ghost use mathlib.Core.Option.{bind};
 ghost use Rattle.rule.specs.Rule as rule;
 ghost use Rattle.rule.specs.Places as spec;
 ghost use Rattle.rule.specs.Members as members;
+
+// The value behind a member's name that ends before this place.
+pub fn value_behind(line: &[u8], at: usize) -> Place
+    ensures { λ r. ⌜ r ≡ members.valueBehind (now (line .entry)) at ⌝ }
+{
+    let p = skip_blanks(line, at);
+    if is_at(line, p, b':') {
+        return Place::At(skip_blanks(line, p + 1));
+    }
+    Place::Nowhere
+}
 
 // Is the value at this place a string?
 fn is_text(line: &[u8], at: usize) -> bool

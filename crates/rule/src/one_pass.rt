@@ -18,6 +18,7 @@ use crate::UsersRead;
 use crate::Word;
 use crate::listed::users_at;
 use crate::listed::users_of;
+use crate::listed::value_behind;
 use crate::topic_list::is_template;
 use crate::topic_list::topic_at;
 use crate::words::control_of;
@@ -48,7 +49,7 @@ const IN_PART: usize = 6;
 
 // The place behind a value of the users' object or the topics' array, if no string of it is over the limit, nor one of `longest` bytes.
 fn part_end(line: &[u8], at: usize, longest: usize) -> Place
-    ensures { λ r. ⌜ spec.WherePlace r (spec.PartTo (now (line .entry)) at longest) ⌝ }
+    ensures { λ r. ⌜ spec.WherePlace r (spec.PartTo 6 (now (line .entry)) at longest) ⌝ }
 {
     match value(Cursor { at, longest }, line, IN_PART) {
         Step::Bad => Place::Nowhere,
@@ -231,17 +232,6 @@ fn with_member(text: &[u8], p: usize, found: MemberPlaces) -> MemberPlaces
         ipaddr: noted(text, b"ipaddr", p, ipaddr),
         protocol: noted(text, b"protocol", p, protocol),
     }
-}
-
-// The value behind a member's name that ends before this place.
-fn value_behind(line: &[u8], at: usize) -> Place
-    ensures { λ r. ⌜ r ≡ members.valueBehind (now (line .entry)) at ⌝ }
-{
-    let p = skip_blanks(line, at);
-    if is_at(line, p, b':') {
-        return Place::At(skip_blanks(line, p + 1));
-    }
-    Place::Nowhere
 }
 
 fn no_places() -> MemberPlaces

@@ -19,7 +19,7 @@ use Rattle.rule.proofs.one_pass.members_end.Statement.{statement}
 use Rattle.rule.proofs.one_pass.members_end.Tie as tie
 
 abbrev Inv-loop : tie.InvT-loop
-Inv-loop line at found₀ i₀ found i = (rest : Members) (end : ℕ) → MembersFrom line i rest end → MembersTo line at (placesIn rest found) end
+Inv-loop line at found₀ i₀ found i = (rest : Members) (end : ℕ) → MembersFrom 6 line i rest end → MembersTo line at (placesIn rest found) end
 
 abbrev μ-loop : tie.MeasureT-loop
 μ-loop line at found₀ i₀ found i = length line - i
@@ -32,11 +32,11 @@ named c = plain-string (now (c .before .before .before .before .before .before .
 here : (c : tie.After-known-told3 Inv-loop μ-loop) →
     let line = now (c .before .before .before .before .before .before .before .before .before .before .before .before .before .before .before .before .before .before .before .before .before .args .line) in
     let i = c .before .before .before .before .before .before .before .before .before .before .before .before .before .before .before .loop .i in
-    MemberAt line i (take (c .before .before .before .before .before .before .before .before .before .before .before .end .given .0 .0 - (i + 1)) (drop (i + 1) line)) (c .before .before .before .before .before .before .before .p .given .0 .0) (c .before .behind .given .0 .0)
+    MemberAt 6 line i (take (c .before .before .before .before .before .before .before .before .before .before .before .end .given .0 .0 - (i + 1)) (drop (i + 1) line)) (c .before .before .before .before .before .before .before .p .given .0 .0) (c .before .behind .given .0 .0)
 here c =
     let line = now (c .before .before .before .before .before .before .before .before .before .before .before .before .before .before .before .before .before .before .before .before .before .args .line) in
     member-read line (c .before .before .before .before .before .before .before .before .before .before .before .before .before .before .before .loop .i) (named (c .before .before .before .before .before .before .before .before .before .before)) (sym (c .before .before .before .before .before .before .before .before .before .value-behind .ensures) ∙ c .before .before .before .before .before .before .before .p .given .1)
-    (answered (PartTo line (c .before .before .before .before .before .before .before .p .given .0 .0) (c .before .before .before .before .before .before .before .before .before .before .before .end .given .0 .0 - (c .before .before .before .before .before .before .before .before .before .before .before .before .before .before .before .loop .i + 1))) (c .before .behind .given .1) (c .before .before .before .part-end .ensures))
+    (answered (PartTo 6 line (c .before .before .before .before .before .before .before .p .given .0 .0) (c .before .before .before .before .before .before .before .before .before .before .before .end .given .0 .0 - (c .before .before .before .before .before .before .before .before .before .before .before .before .before .before .before .loop .i + 1))) (c .before .behind .given .1) (c .before .before .before .part-end .ensures))
 
 is-at-requires : tie.Need-is-at-requires Inv-loop μ-loop
 is-at-requires c κs = search needs

@@ -24,7 +24,7 @@ returns-2 c = search needs
 returns-3 : tie.Need-returns-3
 returns-3 c =
     let a = c .before .before .before .before .before .before .before .args in
-    part-read (now (a .line)) (a .at) (a .longest) (sym (c .before .before .before .before .before .value .ensures) ∙ c .before .before .before .c .given .1) (c .if1 .left)
+    part-read 6 (now (a .line)) (a .at) (a .longest) (sym (c .before .before .before .before .before .value .ensures) ∙ c .before .before .before .c .given .1) (c .if1 .left)
 
 pub part-end-spec : {M : Type 1} → statement M
 part-end-spec =

@@ -101,7 +101,7 @@ returns-6 c = search needs
 returns-7 : tie.Need-returns-7
 returns-7 c =
     let a = c .before .before .before .before .before .before .before .before .before .before .before .before .before .args in
-    let t = answered (PartTo (now (a .line)) (a .at) 0) (c .before .before .before .end3 .given .1) (c .before .before .before .before .before .part-end .ensures) in
+    let t = answered (PartTo 6 (now (a .line)) (a .at) 0) (c .before .before .before .end3 .given .1) (c .before .before .before .before .before .part-end .ensures) in
     value-topic (now (a .line)) (a .at) (t .reads) (t .short) (ap isTopic (sym (c .before .topic-at .ensures)) ∙ good-topic (c .before .topic-at .result) (c .match4 .keys2))
 
 pub topic-end-spec : {M : Type 1} → statement M

@@ -6,8 +6,8 @@ use Rattle.json.specs.declared.Place.the-variants.{At}
 use Rattle.json.proofs.ScanLaws.{at-within}
 use Rattle.rule.proofs.OnePassLaws.{behind-name}
 use borrow.Author.Needs.{needs}
-use Rattle.rule.proofs.one_pass.value_behind.Statement.{statement}
-use Rattle.rule.proofs.one_pass.value_behind.Tie as tie
+use Rattle.rule.proofs.listed.value_behind.Statement.{statement}
+use Rattle.rule.proofs.listed.value_behind.Tie as tie
 
 skip-blanks-requires : tie.Need-skip-blanks-requires
 skip-blanks-requires c κs = search needs
