@@ -1,7 +1,6 @@
 /* Times the check behind number 3 and the questions on a store, beside a plain scan of its bytes and the reading of its rules, in one
    run. store WHAT REPEATS: one row alone, for a profiler. store EVENT ROWS REPEATS: an event on a store whose F and N are ROWS, all
    used, each time on a copy of it. Linked with target/staticlib/libffi.a. */
-#include <stdbool.h>
 #include <stdint.h>
 #include <stdio.h>
 #include <stdlib.h>
@@ -10,11 +9,11 @@
 
 typedef const uint8_t *Text;
 uint32_t acl_open(uint8_t *, size_t, uint64_t, uint64_t, uint64_t, uint64_t, Text, size_t);
-uint32_t acl_connect(Text, size_t, uint64_t, Text, size_t, bool, Text, size_t, bool, Text, size_t, bool, Text, size_t, uint8_t);
-uint32_t acl_publish(Text, size_t, uint64_t, Text, size_t, bool, Text, size_t, bool, Text, size_t, bool, Text, size_t, bool, uint8_t,
-                     Text, size_t, bool);
+uint32_t acl_connect(Text, size_t, uint64_t, Text, size_t, uint8_t, Text, size_t, uint8_t, Text, size_t, uint8_t, Text, size_t, uint8_t);
+uint32_t acl_publish(Text, size_t, uint64_t, Text, size_t, uint8_t, Text, size_t, uint8_t, Text, size_t, uint8_t, Text, size_t, uint8_t, uint8_t,
+                     Text, size_t, uint8_t);
 uint8_t acl_rule_refusal(Text, size_t);
-uint8_t acl_connected(uint8_t *, size_t, uint64_t, Text, size_t, bool, Text, size_t);
+uint8_t acl_connected(uint8_t *, size_t, uint64_t, Text, size_t, uint8_t, Text, size_t);
 uint8_t acl_disconnected(uint8_t *, size_t, uint64_t, Text, size_t);
 uint8_t acl_ended(uint8_t *, size_t, uint64_t);
 
@@ -61,8 +60,8 @@ static void make(unsigned R, unsigned F, unsigned E, unsigned N, unsigned count,
 
 /* A question of client g1; a kept code is answered once the store is checked. */
 static uint32_t asks(const char *name, unsigned earlier) {
-    return acl_publish(store, length, earlier, (Text) "g1", 2, true, (Text)name, strlen(name), false, (Text) "", 0, false, (Text) "", 0, true, 4,
-                       (Text) "bench/g1/set1", 13, true);
+    return acl_publish(store, length, earlier, (Text) "g1", 2, 1, (Text)name, strlen(name), 0, (Text) "", 0, 0, (Text) "", 0, 1, 4,
+                       (Text) "bench/g1/set1", 13, 1);
 }
 
 static uint32_t once(const char *what) {
@@ -127,9 +126,9 @@ static void event(const char *what, unsigned rows) {
     sprintf(id, "g%u", n);
     sprintf(name, "n%u", n % 32);
     if (!strcmp(what, "present") || !strcmp(what, "new"))
-        if (acl_connected(store, length, n % 256, (Text)id, strlen(id), true, (Text)name, strlen(name)) != 0) exit(1);
+        if (acl_connected(store, length, n % 256, (Text)id, strlen(id), 1, (Text)name, strlen(name)) != 0) exit(1);
     if (!strcmp(what, "full"))
-        if (acl_connected(store, length, n % 256, (Text)id, strlen(id), true, (Text)name, strlen(name)) != 8) exit(1);
+        if (acl_connected(store, length, n % 256, (Text)id, strlen(id), 1, (Text)name, strlen(name)) != 8) exit(1);
     if (!strcmp(what, "first") || !strcmp(what, "last"))
         if (acl_disconnected(store, length, n % 256, (Text)id, strlen(id)) != 0 || store[10] + 256 * store[11] != rows - 2) exit(1);
     if (!strcmp(what, "ended"))

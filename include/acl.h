@@ -9,21 +9,20 @@
 
    What the caller owes, since no proof reaches it:
    - an address from which as many bytes as the length says can be read (a store for acl_open and events: written). The length is at
-     most PTRDIFF_MAX. Where it is 0 the address may be any but NULL, and nothing is read from it;
-   - never NULL: the functions are proved of addresses that aren't, and with one that is nothing is promised, not with length 0 either,
-     nor where the flag before it is false. The inline calls below (acl_ask_.., acl_tell_..) take NULL and hand over another address;
-   - a bool that is 0 or 1, as every conversion to C's bool gives;
+     most PTRDIFF_MAX. Where it is 0 nothing is read, and the address may be any, NULL too;
    - nothing else that is lent overlaps the store that acl_open or an event writes. Texts may overlap one another, and in a question
      a text may lie in the store.
    Nothing else is owed: a text may hold any bytes, a number be any of its type.
 
-   An optional text, or number, counts where the bool before it is true; where it is false it is not looked at.
+   A flag is a uint8_t: 0 is false, every other value true. An answer that is yes or no is 1 or 0.
+
+   An optional text is a flag, an address and a length; an optional number a flag and the number. It counts where the flag is true;
+   where it is false it is not looked at, and NULL and 0 will do.
 
    Refusals by number, each the first cause in document 01's order; all lent memory is then unchanged. See acl_refusal below. */
 #ifndef ACL_H
 #define ACL_H
 
-#include <stdbool.h>
 #include <stddef.h>
 #include <stdint.h>
 #include <string.h>
@@ -48,30 +47,31 @@ enum acl_refusal {
 
 /* ---- Filters and matching ---- */
 
-/* Is the text a valid filter? `+` and `#` only as whole levels, `#` only as the last; the empty text is valid. */
-bool acl_valid_filter(const uint8_t *text, size_t text_length);
+/* Is the text a valid filter? `+` and `#` only as whole levels, `#` only as the last; the empty text is valid.
+   1 or 0. Reads the text. */
+uint8_t acl_valid_filter(const uint8_t *text, size_t text_length);
 
-/* Tree match T, the plugin's: does the filter take the checked text? */
-bool acl_tree_match(const uint8_t *filter, size_t filter_length, const uint8_t *text, size_t text_length);
+/* Tree match T, the plugin's: does the filter take the checked text? 1 or 0. Reads both. */
+uint8_t acl_tree_match(const uint8_t *filter, size_t filter_length, const uint8_t *text, size_t text_length);
 
-/* Plain match P, the per-client rules': does the filter take the checked text? */
-bool acl_plain_match(const uint8_t *filter, size_t filter_length, const uint8_t *text, size_t text_length);
+/* Plain match P, the per-client rules': does the filter take the checked text? 1 or 0. Reads both. */
+uint8_t acl_plain_match(const uint8_t *filter, size_t filter_length, const uint8_t *text, size_t text_length);
 
 /* ---- One line: a JSON document, a plugin rule ---- */
 
-/* Is the line, without its LF, one of document 01's JSON documents? */
-bool acl_is_document(const uint8_t *line, size_t line_length);
+/* Is the line, without its LF, one of document 01's JSON documents? 1 or 0. Reads the line. */
+uint8_t acl_is_document(const uint8_t *line, size_t line_length);
 
-/* And one whose decoded strings, member names included, have at most this many bytes? */
-bool acl_is_document_within(const uint8_t *line, size_t line_length, size_t most);
+/* And one whose decoded strings, member names included, have at most this many bytes? 1 or 0. Reads the line. */
+uint8_t acl_is_document_within(const uint8_t *line, size_t line_length, size_t most);
 
-/* 0 for a rule, else the number by which the line is refused: 1, 5 or 6. */
+/* 0 for a rule, else the number by which the line is refused: 1, 5 or 6. Reads the line. */
 uint8_t acl_rule_refusal(const uint8_t *line, size_t line_length);
 
-/* Do the users that the line's rule lists agree with the client? The values of acl_identity_answer. */
-uint8_t acl_identity(const uint8_t *line, size_t line_length, const uint8_t *id, size_t id_length, bool has_name, const uint8_t *name,
-                     size_t name_length, bool has_password, const uint8_t *password, size_t password_length, bool has_address,
-                     const uint8_t *address, size_t address_length, bool has_protocol, uint8_t protocol);
+/* Do the users that the line's rule lists agree with the client? The values of acl_identity_answer. Reads the line and the texts. */
+uint8_t acl_identity(const uint8_t *line, size_t line_length, const uint8_t *id, size_t id_length, uint8_t has_name, const uint8_t *name,
+                     size_t name_length, uint8_t has_password, const uint8_t *password, size_t password_length, uint8_t has_address,
+                     const uint8_t *address, size_t address_length, uint8_t has_protocol, uint8_t protocol);
 
 enum acl_identity_answer {
     ACL_DIFFERS = 0,
@@ -85,20 +85,20 @@ enum acl_identity_answer {
 /* Opens a store for a rule text: R is `bytes` (1 to 32,768), F, E and N are `filters`, `eqs` and `notes` (1 to 4,096), and the store's
    length must be 16 + R + 326F + 260E + 260N (acl_store_length). What the bytes were doesn't matter. Writes every byte of the store:
    the counts, the text, no used row. Answers 0, or the number plus 256 times the line (acl_open_refusal, acl_open_line): 4; 1 text over
-   R, line 0, or over 256 lines, line 257; then the first faulty line's 1, 5 or 6, lines from 1. At most 66,047. */
+   R, line 0, or over 256 lines, line 257; then the first faulty line's 1, 5 or 6, lines from 1. At most 66,047. Reads the text. */
 uint32_t acl_open(uint8_t *store, size_t store_length, uint64_t bytes, uint64_t filters, uint64_t eqs, uint64_t notes,
                   const uint8_t *text, size_t text_length);
 
 /* Event: a client has connected. Fills the templates of the rules and adds filter, eq and note rows. Answers 0 done, else the number: 1
-   id or name over 64 bytes; 2 session over 255; 3; 7; 8, 9, 10. */
-uint8_t acl_connected(uint8_t *store, size_t store_length, uint64_t session, const uint8_t *id, size_t id_length, bool has_name,
+   id or name over 64 bytes; 2 session over 255; 3; 7; 8, 9, 10. Reads id and name, reads and writes the store. */
+uint8_t acl_connected(uint8_t *store, size_t store_length, uint64_t session, const uint8_t *id, size_t id_length, uint8_t has_name,
                       const uint8_t *name, size_t name_length);
 
 /* Event: a client has disconnected. For each note of the session that is a valid filter, the client's filter rows that T-match it go;
-   the notes stay. Answers 0 done, else the number: 1 id over 64 bytes; 2; 3. */
+   the notes stay. Answers 0 done, else the number: 1 id over 64 bytes; 2; 3. Reads the id, reads and writes the store. */
 uint8_t acl_disconnected(uint8_t *store, size_t store_length, uint64_t session, const uint8_t *id, size_t id_length);
 
-/* Event: a session has ended. Drops its notes. Answers 0 done, else the number: 2, 3. */
+/* Event: a session has ended. Drops its notes. Answers 0 done, else the number: 2, 3. Reads and writes the store. */
 uint8_t acl_ended(uint8_t *store, size_t store_length, uint64_t session);
 
 /* The three questions on a store only read. `earlier` is the code of an earlier answer: 0 none; connect 1 allow, 2 not found, 3 bad
@@ -107,23 +107,24 @@ uint8_t acl_ended(uint8_t *store, size_t store_length, uint64_t session);
    plus 1; for a refusal 16 times its number. Refused by 1: id or name over 64 bytes, password over 128, address over 45, topic over
    256; 2: the code, or the QoS; 3. At most 4,111. */
 
-/* May the client connect? ACL_KEPT, ACL_CONNECT_ALLOWED, ACL_CONNECT_SUPERUSER, ACL_NOT_AUTHORIZED or ACL_REFUSED. */
-uint32_t acl_connect(const uint8_t *store, size_t store_length, uint64_t earlier, const uint8_t *id, size_t id_length, bool has_name,
-                     const uint8_t *name, size_t name_length, bool has_password, const uint8_t *password, size_t password_length,
-                     bool has_address, const uint8_t *address, size_t address_length, uint8_t protocol);
+/* May the client connect? ACL_KEPT, ACL_CONNECT_ALLOWED, ACL_CONNECT_SUPERUSER, ACL_NOT_AUTHORIZED or ACL_REFUSED. Reads the
+   store and the texts, as the next two. */
+uint32_t acl_connect(const uint8_t *store, size_t store_length, uint64_t earlier, const uint8_t *id, size_t id_length, uint8_t has_name,
+                     const uint8_t *name, size_t name_length, uint8_t has_password, const uint8_t *password, size_t password_length,
+                     uint8_t has_address, const uint8_t *address, size_t address_length, uint8_t protocol);
 
 /* May the client subscribe to the topic? ACL_KEPT, ACL_SUBSCRIBE_QOS0 to QOS2 (the asked QoS), ACL_UNSPECIFIED_ERROR or ACL_REFUSED. */
-uint32_t acl_subscribe(const uint8_t *store, size_t store_length, uint64_t earlier, const uint8_t *id, size_t id_length, bool has_name,
-                       const uint8_t *name, size_t name_length, bool has_password, const uint8_t *password, size_t password_length,
-                       bool has_address, const uint8_t *address, size_t address_length, bool has_protocol, uint8_t protocol,
+uint32_t acl_subscribe(const uint8_t *store, size_t store_length, uint64_t earlier, const uint8_t *id, size_t id_length, uint8_t has_name,
+                       const uint8_t *name, size_t name_length, uint8_t has_password, const uint8_t *password, size_t password_length,
+                       uint8_t has_address, const uint8_t *address, size_t address_length, uint8_t has_protocol, uint8_t protocol,
                        const uint8_t *topic, size_t topic_length, uint64_t qos);
 
 /* May the client publish to the topic? ACL_KEPT, ACL_PUBLISH_ALLOWED, ACL_PUBLISH_REFUSED, with the caller's disconnect flag
    ACL_PUBLISH_DROPPED, or ACL_REFUSED. */
-uint32_t acl_publish(const uint8_t *store, size_t store_length, uint64_t earlier, const uint8_t *id, size_t id_length, bool has_name,
-                     const uint8_t *name, size_t name_length, bool has_password, const uint8_t *password, size_t password_length,
-                     bool has_address, const uint8_t *address, size_t address_length, bool has_protocol, uint8_t protocol,
-                     const uint8_t *topic, size_t topic_length, bool disconnect);
+uint32_t acl_publish(const uint8_t *store, size_t store_length, uint64_t earlier, const uint8_t *id, size_t id_length, uint8_t has_name,
+                     const uint8_t *name, size_t name_length, uint8_t has_password, const uint8_t *password, size_t password_length,
+                     uint8_t has_address, const uint8_t *address, size_t address_length, uint8_t has_protocol, uint8_t protocol,
+                     const uint8_t *topic, size_t topic_length, uint8_t disconnect);
 
 /* ---- The rules that came with a client's credentials ---- */
 
@@ -132,26 +133,27 @@ uint32_t acl_publish(const uint8_t *store, size_t store_length, uint64_t earlier
    its line: 1 id or name over 64 bytes, topic over 256, text too long, line 0, or over 256 lines, line 257; 2 QoS over 2, line 0; then
    the first faulty line's 1, 5, 6 or 7. At most 1,052,832. */
 
-/* May the client subscribe to the topic, by its rules? ACL_SUBSCRIBE_QOS0 to QOS2, ACL_NOT_AUTHORIZED, ACL_NO_DECISION or ACL_REFUSED. */
-uint64_t acl_client_subscribe(bool superuser, const uint8_t *id, size_t id_length, bool has_name, const uint8_t *name,
+/* May the client subscribe to the topic, by its rules? ACL_SUBSCRIBE_QOS0 to QOS2, ACL_NOT_AUTHORIZED, ACL_NO_DECISION or ACL_REFUSED.
+   Reads the texts. */
+uint64_t acl_client_subscribe(uint8_t superuser, const uint8_t *id, size_t id_length, uint8_t has_name, const uint8_t *name,
                               size_t name_length, const uint8_t *rules, size_t rules_length, uint64_t qos, const uint8_t *topic,
                               size_t topic_length);
 
 /* May the client publish to the topic, by its rules? ACL_PUBLISH_ALLOWED, ACL_PUBLISH_REFUSED, ACL_PUBLISH_DROPPED, ACL_NO_DECISION or
-   ACL_REFUSED. */
-uint64_t acl_client_publish(bool superuser, const uint8_t *id, size_t id_length, bool has_name, const uint8_t *name, size_t name_length,
-                            const uint8_t *rules, size_t rules_length, uint64_t qos, bool retain, bool disconnect,
-                            const uint8_t *topic, size_t topic_length);
+   ACL_REFUSED. Reads the texts. */
+uint64_t acl_client_publish(uint8_t superuser, const uint8_t *id, size_t id_length, uint8_t has_name, const uint8_t *name,
+                            size_t name_length, const uint8_t *rules, size_t rules_length, uint64_t qos, uint8_t retain,
+                            uint8_t disconnect, const uint8_t *topic, size_t topic_length);
 
 /* Are the credentials expired now? Expiry below now is; equal isn't; none never. ACL_VALID, ACL_EXPIRED, or ACL_REFUSED with number 2:
-   nanoseconds of either time over 999,999,999. */
-uint64_t acl_expired(bool has_expiry, uint64_t expiry_seconds, uint64_t expiry_nanoseconds, uint64_t seconds, uint64_t nanoseconds);
+   nanoseconds of either time over 999,999,999. Nothing is lent. */
+uint64_t acl_expired(uint8_t has_expiry, uint64_t expiry_seconds, uint64_t expiry_nanoseconds, uint64_t seconds, uint64_t nanoseconds);
 
 /* ---- What an answer says ---- */
 
-/* What a question is answered: its number modulo 16. */
+/* What a question, or acl_expired, is answered: acl_answer_what. */
 enum acl_what {
-    ACL_REFUSED = 0,            /* refused by number: acl_answer_number, and acl_answer_line for per-client questions */
+    ACL_REFUSED = 0,            /* refused by number: acl_answer_refusal, and acl_answer_line for per-client questions */
     ACL_KEPT = 1,               /* the earlier answer is kept, rule 0: acl_answer_code */
     ACL_CONNECT_ALLOWED = 2,    /* allow */
     ACL_CONNECT_SUPERUSER = 3,  /* allow, with the superuser flag */
@@ -168,59 +170,57 @@ enum acl_what {
     ACL_EXPIRED = 14
 };
 
-static inline enum acl_what acl_answer_what(uint64_t answer) { return (enum acl_what)(answer % 16); }
+/* The parts of the number that a question, or acl_expired, has answered, so that a caller has no arithmetic to do. Proved too: any
+   number is taken, and from its parts the whole answer is read back. Nothing is lent. */
+
+/* What is answered, an acl_what; 15 of a number that is no answer. */
+uint8_t acl_answer_what(uint64_t answer);
 
 /* Does the answer allow? A kept code doesn't: it is a refusal. No decision doesn't either; what follows is the caller's. */
-static inline bool acl_answer_allows(uint64_t answer) {
-    return acl_answer_what(answer) >= ACL_CONNECT_ALLOWED && acl_answer_what(answer) <= ACL_PUBLISH_ALLOWED;
-}
+uint8_t acl_answer_allows(uint64_t answer);
 
-/* The deciding rule, from 1; 0 where none decided, where a code is kept and where the call is refused. */
-static inline unsigned acl_answer_rule(uint64_t answer) {
-    return acl_answer_what(answer) == ACL_REFUSED || acl_answer_what(answer) == ACL_KEPT ? 0 : (unsigned)(answer / 16);
-}
+/* The deciding rule, from 1, at most 256; 0 where none decided, where a code is kept and where the call is refused. */
+uint64_t acl_answer_rule(uint64_t answer);
 
 /* The code that is kept; 0 where none is. */
-static inline unsigned acl_answer_code(uint64_t answer) { return acl_answer_what(answer) == ACL_KEPT ? (unsigned)(answer / 16) : 0; }
+uint64_t acl_answer_code(uint64_t answer);
 
 /* The QoS of an allowed subscribe; 0 of anything else. */
-static inline unsigned acl_answer_qos(uint64_t answer) {
-    return acl_answer_what(answer) >= ACL_SUBSCRIBE_QOS0 && acl_answer_what(answer) <= ACL_SUBSCRIBE_QOS2 ? (unsigned)(answer % 16 - 4) : 0;
-}
+uint8_t acl_answer_qos(uint64_t answer);
 
 /* Does an allowed connect carry the superuser flag? */
-static inline bool acl_answer_superuser(uint64_t answer) { return acl_answer_what(answer) == ACL_CONNECT_SUPERUSER; }
+uint8_t acl_answer_superuser(uint64_t answer);
 
 /* Does a refused publish carry the disconnect flag? */
-static inline bool acl_answer_disconnect(uint64_t answer) { return acl_answer_what(answer) == ACL_PUBLISH_DROPPED; }
+uint8_t acl_answer_disconnect(uint64_t answer);
 
 /* The number of document 01, an acl_refusal; 0 where the call isn't refused by number. */
-static inline unsigned acl_answer_number(uint64_t answer) {
-    return acl_answer_what(answer) == ACL_REFUSED ? (unsigned)(answer / 16 % 256) : 0;
-}
+uint8_t acl_answer_refusal(uint64_t answer);
 
-/* Its line, of per-client rules; 0 where it has none. */
-static inline unsigned acl_answer_line(uint64_t answer) { return acl_answer_what(answer) == ACL_REFUSED ? (unsigned)(answer / 4096) : 0; }
+/* Its line, of per-client rules, at most 257; 0 where it has none. */
+uint64_t acl_answer_line(uint64_t answer);
 
 /* Of acl_open: the number, 0 for done, and the line, 0 where it has none. */
-static inline unsigned acl_open_refusal(uint32_t answer) { return answer % 256; }
-static inline unsigned acl_open_line(uint32_t answer) { return answer / 256; }
+uint8_t acl_open_refusal(uint32_t answer);
+uint32_t acl_open_line(uint32_t answer);
 
 /* The word that the programs `decide` and `client` write for a question's answer. */
 static inline const char *acl_answer_word(uint64_t answer) {
     static const char *const words[16] = {"error", "kept", "allow", "super", "allow", "allow", "allow", "allow", "refuse",
                                           "refuse", "drop", "refuse", "none", "valid", "expired", "?"};
-    return words[answer % 16];
+    return words[acl_answer_what(answer)];
 }
 
-/* ---- The same calls on texts, NULL allowed ---- */
+/* ---- The same calls on texts ---- */
 
-/* A lent text. With `bytes` NULL, whatever the length, it is absent: an optional one doesn't count, any other is empty. */
+/* A lent text, still the caller's. With `bytes` NULL, whatever the length, it is absent: an optional one doesn't count, any other is
+   empty. The functions below are inline, each over the call that it names, and return what that returns. */
 typedef struct acl_text {
     const void *bytes;
     size_t length;
 } acl_text;
 
+/* The text of these bytes; absent for NULL. */
 static inline acl_text acl_bytes(const void *bytes, size_t length) {
     acl_text text;
     text.bytes = bytes;
@@ -233,21 +233,18 @@ static inline acl_text acl_absent(void) { return acl_bytes(NULL, 0); }
 /* The text before the string's zero byte; absent for NULL. */
 static inline acl_text acl_string(const char *string) { return acl_bytes(string, string ? strlen(string) : 0); }
 
-/* What crosses: the address, never NULL, and the length. */
-static inline const uint8_t *acl_address(acl_text text) {
-    static const uint8_t nothing[1] = {0};
-    return text.bytes ? (const uint8_t *)text.bytes : nothing;
-}
+/* What crosses: the address, the length, and the flag of an optional one. */
+static inline const uint8_t *acl_address(acl_text text) { return (const uint8_t *)text.bytes; }
 static inline size_t acl_length(acl_text text) { return text.bytes ? text.length : 0; }
-static inline bool acl_given(acl_text text) { return text.bytes != NULL; }
+static inline uint8_t acl_given(acl_text text) { return text.bytes != NULL; }
 
 /* Who asks. */
 typedef struct acl_client {
     acl_text id;
-    acl_text name;     /* optional, as the next two */
+    acl_text name;        /* optional, as the next two */
     acl_text password;
     acl_text address;
-    bool has_protocol; /* not looked at by connect, which always has one */
+    uint8_t has_protocol; /* a flag, not looked at by connect, which always has one */
     uint8_t protocol;
 } acl_client;
 
@@ -263,24 +260,31 @@ static inline size_t acl_store_length(acl_counts c) {
     return (size_t)(16 + c.bytes + 326 * c.filters + 260 * c.eqs + 260 * c.notes);
 }
 
-static inline bool acl_ask_valid_filter(acl_text text) { return acl_valid_filter(acl_address(text), acl_length(text)); }
+/* acl_valid_filter. */
+static inline uint8_t acl_ask_valid_filter(acl_text text) { return acl_valid_filter(acl_address(text), acl_length(text)); }
 
-static inline bool acl_ask_tree_match(acl_text filter, acl_text text) {
+/* acl_tree_match. */
+static inline uint8_t acl_ask_tree_match(acl_text filter, acl_text text) {
     return acl_tree_match(acl_address(filter), acl_length(filter), acl_address(text), acl_length(text));
 }
 
-static inline bool acl_ask_plain_match(acl_text filter, acl_text text) {
+/* acl_plain_match. */
+static inline uint8_t acl_ask_plain_match(acl_text filter, acl_text text) {
     return acl_plain_match(acl_address(filter), acl_length(filter), acl_address(text), acl_length(text));
 }
 
-static inline bool acl_ask_document(acl_text line) { return acl_is_document(acl_address(line), acl_length(line)); }
+/* acl_is_document. */
+static inline uint8_t acl_ask_document(acl_text line) { return acl_is_document(acl_address(line), acl_length(line)); }
 
-static inline bool acl_ask_document_within(acl_text line, size_t most) {
+/* acl_is_document_within. */
+static inline uint8_t acl_ask_document_within(acl_text line, size_t most) {
     return acl_is_document_within(acl_address(line), acl_length(line), most);
 }
 
+/* acl_rule_refusal. */
 static inline uint8_t acl_ask_rule_refusal(acl_text line) { return acl_rule_refusal(acl_address(line), acl_length(line)); }
 
+/* acl_identity. */
 static inline uint8_t acl_ask_identity(acl_text line, const acl_client *c) {
     return acl_identity(acl_address(line), acl_length(line), acl_address(c->id), acl_length(c->id), acl_given(c->name),
                         acl_address(c->name), acl_length(c->name), acl_given(c->password), acl_address(c->password),
@@ -288,35 +292,36 @@ static inline uint8_t acl_ask_identity(acl_text line, const acl_client *c) {
                         c->has_protocol, c->protocol);
 }
 
-/* A store that is NULL is one of no bytes: acl_tell_open answers 4, events and questions 3, unless an earlier cause gives another. */
+/* acl_open. Here and in what follows a store that is NULL is one of no bytes: refused by 4, by events and questions by 3, unless an
+   earlier cause gives another. */
 static inline uint32_t acl_tell_open(uint8_t *store, size_t length, acl_counts c, acl_text text) {
-    uint8_t nothing = 0;
-    return acl_open(store ? store : &nothing, store ? length : 0, c.bytes, c.filters, c.eqs, c.notes, acl_address(text),
-                    acl_length(text));
+    return acl_open(store, store ? length : 0, c.bytes, c.filters, c.eqs, c.notes, acl_address(text), acl_length(text));
 }
 
+/* acl_connected. */
 static inline uint8_t acl_tell_connected(uint8_t *store, size_t length, uint64_t session, acl_text id, acl_text name) {
-    uint8_t nothing = 0;
-    return acl_connected(store ? store : &nothing, store ? length : 0, session, acl_address(id), acl_length(id), acl_given(name),
-                         acl_address(name), acl_length(name));
+    return acl_connected(store, store ? length : 0, session, acl_address(id), acl_length(id), acl_given(name), acl_address(name),
+                         acl_length(name));
 }
 
+/* acl_disconnected. */
 static inline uint8_t acl_tell_disconnected(uint8_t *store, size_t length, uint64_t session, acl_text id) {
-    uint8_t nothing = 0;
-    return acl_disconnected(store ? store : &nothing, store ? length : 0, session, acl_address(id), acl_length(id));
+    return acl_disconnected(store, store ? length : 0, session, acl_address(id), acl_length(id));
 }
 
+/* acl_ended. */
 static inline uint8_t acl_tell_ended(uint8_t *store, size_t length, uint64_t session) {
-    uint8_t nothing = 0;
-    return acl_ended(store ? store : &nothing, store ? length : 0, session);
+    return acl_ended(store, store ? length : 0, session);
 }
 
+/* acl_connect. */
 static inline uint32_t acl_ask_connect(acl_text store, uint64_t earlier, const acl_client *c) {
     return acl_connect(acl_address(store), acl_length(store), earlier, acl_address(c->id), acl_length(c->id), acl_given(c->name),
                        acl_address(c->name), acl_length(c->name), acl_given(c->password), acl_address(c->password),
                        acl_length(c->password), acl_given(c->address), acl_address(c->address), acl_length(c->address), c->protocol);
 }
 
+/* acl_subscribe. */
 static inline uint32_t acl_ask_subscribe(acl_text store, uint64_t earlier, const acl_client *c, acl_text topic, uint64_t qos) {
     return acl_subscribe(acl_address(store), acl_length(store), earlier, acl_address(c->id), acl_length(c->id), acl_given(c->name),
                          acl_address(c->name), acl_length(c->name), acl_given(c->password), acl_address(c->password),
@@ -324,21 +329,24 @@ static inline uint32_t acl_ask_subscribe(acl_text store, uint64_t earlier, const
                          c->has_protocol, c->protocol, acl_address(topic), acl_length(topic), qos);
 }
 
-static inline uint32_t acl_ask_publish(acl_text store, uint64_t earlier, const acl_client *c, acl_text topic, bool disconnect) {
+/* acl_publish. */
+static inline uint32_t acl_ask_publish(acl_text store, uint64_t earlier, const acl_client *c, acl_text topic, uint8_t disconnect) {
     return acl_publish(acl_address(store), acl_length(store), earlier, acl_address(c->id), acl_length(c->id), acl_given(c->name),
                        acl_address(c->name), acl_length(c->name), acl_given(c->password), acl_address(c->password),
                        acl_length(c->password), acl_given(c->address), acl_address(c->address), acl_length(c->address),
                        c->has_protocol, c->protocol, acl_address(topic), acl_length(topic), disconnect);
 }
 
-static inline uint64_t acl_ask_client_subscribe(bool superuser, acl_text id, acl_text name, acl_text rules, uint64_t qos,
+/* acl_client_subscribe. */
+static inline uint64_t acl_ask_client_subscribe(uint8_t superuser, acl_text id, acl_text name, acl_text rules, uint64_t qos,
                                                 acl_text topic) {
     return acl_client_subscribe(superuser, acl_address(id), acl_length(id), acl_given(name), acl_address(name), acl_length(name),
                                 acl_address(rules), acl_length(rules), qos, acl_address(topic), acl_length(topic));
 }
 
-static inline uint64_t acl_ask_client_publish(bool superuser, acl_text id, acl_text name, acl_text rules, uint64_t qos, bool retain,
-                                              bool disconnect, acl_text topic) {
+/* acl_client_publish. */
+static inline uint64_t acl_ask_client_publish(uint8_t superuser, acl_text id, acl_text name, acl_text rules, uint64_t qos, uint8_t retain,
+                                              uint8_t disconnect, acl_text topic) {
     return acl_client_publish(superuser, acl_address(id), acl_length(id), acl_given(name), acl_address(name), acl_length(name),
                               acl_address(rules), acl_length(rules), qos, retain, disconnect, acl_address(topic), acl_length(topic));
 }

@@ -1,5 +1,6 @@
-/* Tests of acl.h: each inline function that unpacks, on every number that an answer can be; each inline call, with NULL for its texts and
-   with texts that tell its parameters apart. Built and run by include/check. */
+/* Tests of acl.h. What is read from an answer's number, on every number that an answer can be and up to the largest; each call with NULL and
+   length 0 for each address, each flag at its largest value, each text at its longest and one past it, each number that can be
+   refused up to the largest; each inline call, with texts that tell its parameters apart. Built and run by include/check. */
 #include <stdio.h>
 #include <stdlib.h>
 
@@ -16,42 +17,45 @@
 
 static unsigned long checks;
 
+/* The parts of a number that is what is answered, and what it carries. */
+static void parts(unsigned what, uint64_t carried) {
+    uint64_t answer = 16 * carried + what;
+    CHECK(acl_answer_what(answer) == what);
+    CHECK(acl_answer_allows(answer) == (what >= 2 && what <= 7));
+    CHECK(acl_answer_rule(answer) == (what >= 2 && what <= 11 ? carried : 0));
+    CHECK(acl_answer_code(answer) == (what == ACL_KEPT ? carried : 0));
+    CHECK(acl_answer_qos(answer) == (what == 5 ? 1 : what == 6 ? 2 : 0));
+    CHECK(acl_answer_superuser(answer) == (what == 3));
+    CHECK(acl_answer_disconnect(answer) == (what == 10));
+    CHECK(acl_answer_refusal(answer) == (what == ACL_REFUSED ? carried % 256 : 0));
+    CHECK(acl_answer_line(answer) == (what == ACL_REFUSED ? carried / 256 : 0));
+}
+
 static void unpacks(void) {
-    for (unsigned what = 1; what < 15; what++)
-        for (unsigned carried = 0; carried <= 256; carried++) {
-            uint64_t answer = 16 * carried + what;
-            CHECK(acl_answer_what(answer) == what);
-            CHECK(acl_answer_allows(answer) == (what >= 2 && what <= 7));
-            CHECK(acl_answer_rule(answer) == (what == ACL_KEPT ? 0 : carried));
-            CHECK(acl_answer_code(answer) == (what == ACL_KEPT ? carried : 0));
-            CHECK(acl_answer_qos(answer) == (what == 5 ? 1 : what == 6 ? 2 : 0));
-            CHECK(acl_answer_superuser(answer) == (what == 3));
-            CHECK(acl_answer_disconnect(answer) == (what == 10));
-            CHECK(acl_answer_number(answer) == 0 && acl_answer_line(answer) == 0);
-        }
+    for (unsigned what = 0; what < 16; what++) {
+        for (unsigned carried = 0; carried <= 256; carried++) parts(what, carried);
+        for (unsigned bit = 8; bit <= 60; bit++) parts(what, (UINT64_C(1) << bit) - 1);
+    }
     for (unsigned number = 1; number <= 10; number++)
         for (unsigned line = 0; line <= 257; line++) {
-            uint64_t answer = 16 * (number + 256 * (uint64_t)line);
-            CHECK(acl_answer_what(answer) == ACL_REFUSED && !acl_answer_allows(answer));
-            CHECK(acl_answer_number(answer) == number && acl_answer_line(answer) == line);
-            CHECK(acl_answer_rule(answer) == 0 && acl_answer_code(answer) == 0 && acl_answer_qos(answer) == 0);
-            CHECK(!acl_answer_superuser(answer) && !acl_answer_disconnect(answer));
+            parts(ACL_REFUSED, number + 256 * (uint64_t)line);
             CHECK(acl_open_refusal(number + 256 * line) == number && acl_open_line(number + 256 * line) == line);
         }
-    CHECK(acl_open_refusal(0) == 0);
+    CHECK(acl_open_refusal(0) == 0 && acl_open_line(0) == 0);
+    CHECK(acl_open_refusal(UINT32_MAX) == 255 && acl_open_line(UINT32_MAX) == UINT32_MAX / 256);
     static const char *const words[] = {"error", "kept", "allow", "super", "allow", "allow", "allow", "allow",
                                         "refuse", "refuse", "drop", "refuse", "none", "valid", "expired"};
     for (unsigned what = 0; what < 15; what++) CHECK(strcmp(acl_answer_word(16 * 256 + what), words[what]) == 0);
 }
 
-static void lengths(void) {
-    const acl_counts counts[] = {{2048, 64, 32, 64}, {1, 1, 1, 1}, {32768, 4096, 4096, 4096}};
-    CHECK(acl_store_length(counts[0]) == 47888);
+static void counts(void) {
+    const acl_counts good[] = {{2048, 64, 32, 64}, {1, 1, 1, 1}, {32768, 4096, 4096, 4096}};
+    CHECK(acl_store_length(good[0]) == 47888);
     for (int i = 0; i < 3; i++) {
-        size_t length = acl_store_length(counts[i]);
+        size_t length = acl_store_length(good[i]);
         uint8_t *store = (uint8_t *)malloc(length);
-        CHECK(store != NULL && acl_tell_open(store, length, counts[i], acl_absent()) == 0);
-        CHECK(acl_tell_open(store, length - 1, counts[i], acl_absent()) == ACL_COUNTS);
+        CHECK(store != NULL && acl_tell_open(store, length, good[i], acl_absent()) == 0);
+        CHECK(acl_tell_open(store, length - 1, good[i], acl_absent()) == ACL_COUNTS);
         free(store);
     }
     const uint64_t over[] = {0, 32769, UINT64_MAX};
@@ -70,12 +74,12 @@ static void lengths(void) {
     }
 }
 
-/* NULL is an absent text, a text of no bytes where it isn't optional, and a store of no bytes. */
+/* Of an inline call: NULL is an absent text, a text of no bytes where it isn't optional, and a store of no bytes. */
 static void nulls(void) {
     const acl_text none = acl_absent();
-    const acl_client nobody = {{NULL, 9}, {NULL, 9}, {NULL, 9}, {NULL, 9}, false, 0};
-    const acl_client empty = {{NULL, 0}, {"", 0}, {"", 0}, {"", 0}, true, 0};
-    CHECK(!acl_given(none) && acl_given(acl_string("")) && acl_address(none) != NULL && !acl_given(acl_string(NULL)));
+    const acl_client nobody = {{NULL, 9}, {NULL, 9}, {NULL, 9}, {NULL, 9}, 0, 0};
+    const acl_client empty = {{NULL, 0}, {"", 0}, {"", 0}, {"", 0}, 1, 0};
+    CHECK(!acl_given(none) && acl_given(acl_string("")) && !acl_given(acl_string(NULL)));
     CHECK(acl_length(nobody.id) == 0 && acl_bytes(NULL, 9).length == 0);
     CHECK(acl_ask_valid_filter(none) && acl_ask_tree_match(none, none) && acl_ask_plain_match(none, none));
     CHECK(!acl_ask_document(none) && !acl_ask_document_within(none, SIZE_MAX) && acl_ask_rule_refusal(none) == ACL_NOT_JSON);
@@ -84,11 +88,11 @@ static void nulls(void) {
     CHECK(acl_ask_identity(acl_string("[\"allow\",{\"user\":\"\",\"superuser\":true}]"), &empty) == ACL_AGREES_SUPERUSER);
     CHECK(acl_tell_connected(NULL, 9, 0, none, none) == ACL_MALFORMED && acl_tell_disconnected(NULL, 9, 0, none) == ACL_MALFORMED);
     CHECK(acl_tell_ended(NULL, 9, 0) == ACL_MALFORMED && acl_tell_ended(NULL, 9, 256) == ACL_OUT_OF_RANGE);
-    CHECK(acl_answer_number(acl_ask_connect(none, 0, &nobody)) == ACL_MALFORMED);
-    CHECK(acl_answer_number(acl_ask_subscribe(none, 0, &nobody, none, 0)) == ACL_MALFORMED);
-    CHECK(acl_answer_number(acl_ask_publish(none, 0, &nobody, none, true)) == ACL_MALFORMED);
-    CHECK(acl_answer_what(acl_ask_client_subscribe(false, none, none, none, 0, none)) == ACL_NO_DECISION);
-    CHECK(acl_answer_what(acl_ask_client_publish(true, none, none, none, 0, false, false, none)) == ACL_PUBLISH_ALLOWED);
+    CHECK(acl_answer_refusal(acl_ask_connect(none, 0, &nobody)) == ACL_MALFORMED);
+    CHECK(acl_answer_refusal(acl_ask_subscribe(none, 0, &nobody, none, 0)) == ACL_MALFORMED);
+    CHECK(acl_answer_refusal(acl_ask_publish(none, 0, &nobody, none, 1)) == ACL_MALFORMED);
+    CHECK(acl_answer_what(acl_ask_client_subscribe(0, none, none, none, 0, none)) == ACL_NO_DECISION);
+    CHECK(acl_answer_what(acl_ask_client_publish(1, none, none, none, 0, 0, 0, none)) == ACL_PUBLISH_ALLOWED);
 }
 
 /* Each of the four that can agree with a rule, to its own place in each of the four calls that take a client. */
@@ -98,10 +102,10 @@ static void places(void) {
     const acl_text lent = acl_bytes(store, sizeof store), topic = acl_string("t");
     const char *const rules[] = {"[\"allow\",{\"clientid\":\"x\"}]", "[\"allow\",{\"user\":\"x\",\"password\":\"y\"}]",
                                  "[\"allow\",{\"ipaddr\":\"x\"}]", "[\"allow\",{\"protocol\":4}]"};
-    const acl_client clients[] = {{{"x", 1}, {NULL, 0}, {NULL, 0}, {NULL, 0}, true, 3},
-                                  {{"-", 1}, {"x", 1}, {"y", 1}, {NULL, 0}, true, 3},
-                                  {{"-", 1}, {NULL, 0}, {NULL, 0}, {"x", 1}, true, 3},
-                                  {{"-", 1}, {NULL, 0}, {NULL, 0}, {NULL, 0}, true, 4}};
+    const acl_client clients[] = {{{"x", 1}, {NULL, 0}, {NULL, 0}, {NULL, 0}, 1, 3},
+                                  {{"-", 1}, {"x", 1}, {"y", 1}, {NULL, 0}, 1, 3},
+                                  {{"-", 1}, {NULL, 0}, {NULL, 0}, {"x", 1}, 1, 3},
+                                  {{"-", 1}, {NULL, 0}, {NULL, 0}, {NULL, 0}, 1, 4}};
     for (int r = 0; r < 4; r++) {
         CHECK(acl_tell_open(store, sizeof store, counts, acl_string(rules[r])) == 0);
         for (int c = 0; c < 4; c++) {
@@ -109,7 +113,7 @@ static void places(void) {
             CHECK(acl_ask_identity(acl_string(rules[r]), &clients[c]) == yes);
             CHECK(acl_ask_connect(lent, 0, &clients[c]) == (yes ? 16 + ACL_CONNECT_ALLOWED : ACL_NOT_AUTHORIZED));
             CHECK(acl_ask_subscribe(lent, 0, &clients[c], topic, 2) == (yes ? 16 + ACL_SUBSCRIBE_QOS2 : ACL_UNSPECIFIED_ERROR));
-            CHECK(acl_ask_publish(lent, 0, &clients[c], topic, true) == (yes ? 16 + ACL_PUBLISH_ALLOWED : ACL_PUBLISH_DROPPED));
+            CHECK(acl_ask_publish(lent, 0, &clients[c], topic, 1) == (yes ? 16 + ACL_PUBLISH_ALLOWED : ACL_PUBLISH_DROPPED));
         }
     }
     CHECK(acl_ask_tree_match(acl_string("+"), acl_string("a")) && !acl_ask_tree_match(acl_string("a"), acl_string("+")));
@@ -127,19 +131,19 @@ static void absent(void) {
                                  "[\"allow\",{\"ipaddr\":\"\"}]", "[\"allow\",{\"protocol\":0}]"};
     for (int r = 0; r < 4; r++)
         for (unsigned given = 0; given < 2; given++) {
-            acl_client c = {{"-", 1}, {"x", 1}, {"y", 1}, {"z", 1}, true, 3};
+            acl_client c = {{"-", 1}, {"x", 1}, {"y", 1}, {"z", 1}, 1, 3};
             if (r == 0) c.name = given ? acl_string("") : acl_absent();
             if (r == 1) c.password = given ? acl_string("") : acl_absent();
             if (r == 2) c.address = given ? acl_string("") : acl_absent();
             if (r == 3) {
-                c.has_protocol = given;
+                c.has_protocol = (uint8_t)given;
                 c.protocol = 0;
             }
             CHECK(acl_tell_open(store, sizeof store, counts, acl_string(rules[r])) == 0);
             CHECK(acl_ask_identity(acl_string(rules[r]), &c) == given);
             CHECK(acl_answer_allows(acl_ask_connect(lent, 0, &c)) == (given || r == 3));
             CHECK(acl_answer_allows(acl_ask_subscribe(lent, 0, &c, topic, 0)) == given);
-            CHECK(acl_answer_allows(acl_ask_publish(lent, 0, &c, topic, false)) == given);
+            CHECK(acl_answer_allows(acl_ask_publish(lent, 0, &c, topic, 0)) == given);
         }
 }
 
@@ -148,37 +152,186 @@ static void clients(void) {
     const acl_text id = acl_string("i"), name = acl_string("n");
     const acl_text rule = acl_string("{\"permission\":\"deny\",\"action\":\"all\",\"qos\":1,\"retain\":true,\"topic\":\"eq ${clientid}${username}\"}");
     const acl_text topic = acl_string("in");
-    CHECK(acl_ask_client_subscribe(false, id, name, rule, 1, topic) == 16 + ACL_NOT_AUTHORIZED);
-    CHECK(acl_ask_client_subscribe(false, id, name, rule, 0, topic) == ACL_NO_DECISION);
-    CHECK(acl_ask_client_subscribe(true, id, name, rule, 1, topic) == ACL_SUBSCRIBE_QOS1);
-    CHECK(acl_ask_client_publish(false, id, name, rule, 1, true, false, topic) == 16 + ACL_PUBLISH_REFUSED);
-    CHECK(acl_ask_client_publish(false, id, name, rule, 1, true, true, topic) == 16 + ACL_PUBLISH_DROPPED);
-    CHECK(acl_ask_client_publish(false, id, name, rule, 1, false, true, topic) == ACL_NO_DECISION);
-    CHECK(acl_ask_client_publish(false, id, acl_absent(), rule, 1, true, true, topic) == 16 * (ACL_NOT_A_RULE + 256));
-    CHECK(acl_expired(true, 9, 5, 9, 6) == ACL_EXPIRED && acl_expired(true, 9, 5, 9, 5) == ACL_VALID);
-    CHECK(acl_expired(true, 9, 5, 9, UINT64_MAX) == 16 * ACL_OUT_OF_RANGE);
+    CHECK(acl_ask_client_subscribe(0, id, name, rule, 1, topic) == 16 + ACL_NOT_AUTHORIZED);
+    CHECK(acl_ask_client_subscribe(0, id, name, rule, 0, topic) == ACL_NO_DECISION);
+    CHECK(acl_ask_client_subscribe(1, id, name, rule, 1, topic) == ACL_SUBSCRIBE_QOS1);
+    CHECK(acl_ask_client_publish(0, id, name, rule, 1, 1, 0, topic) == 16 + ACL_PUBLISH_REFUSED);
+    CHECK(acl_ask_client_publish(0, id, name, rule, 1, 1, 1, topic) == 16 + ACL_PUBLISH_DROPPED);
+    CHECK(acl_ask_client_publish(0, id, name, rule, 1, 0, 1, topic) == ACL_NO_DECISION);
+    CHECK(acl_ask_client_publish(0, id, acl_absent(), rule, 1, 1, 1, topic) == 16 * (ACL_NOT_A_RULE + 256));
+    CHECK(acl_expired(1, 9, 5, 9, 6) == ACL_EXPIRED && acl_expired(1, 9, 5, 9, 5) == ACL_VALID);
+    CHECK(acl_expired(1, 9, 5, 9, UINT64_MAX) == 16 * ACL_OUT_OF_RANGE);
 
     static uint8_t store[16 + 256 + 326 + 260 + 260];
     const acl_counts counts = {256, 1, 1, 1};
-    const acl_client client = {id, name, {NULL, 0}, {NULL, 0}, false, 0};
+    const acl_client client = {id, name, {NULL, 0}, {NULL, 0}, 0, 0};
     const acl_text lent = acl_bytes(store, sizeof store);
     CHECK(acl_tell_open(store, sizeof store, counts, acl_string("[\"allow\",\"all\",\"all\",[\"%c%u\"]]")) == 0);
-    CHECK(acl_ask_publish(lent, 0, &client, topic, false) == ACL_PUBLISH_REFUSED);
+    CHECK(acl_ask_publish(lent, 0, &client, topic, 0) == ACL_PUBLISH_REFUSED);
     CHECK(acl_tell_connected(store, sizeof store, 7, id, name) == 0);
-    CHECK(acl_ask_publish(lent, 0, &client, topic, false) == 16 + ACL_PUBLISH_ALLOWED);
-    CHECK(acl_ask_publish(lent, 2, &client, topic, false) == 16 * 2 + ACL_KEPT);
+    CHECK(acl_ask_publish(lent, 0, &client, topic, 0) == 16 + ACL_PUBLISH_ALLOWED);
+    CHECK(acl_ask_publish(lent, 2, &client, topic, 0) == 16 * 2 + ACL_KEPT);
     CHECK(acl_tell_disconnected(store, sizeof store, 8, id) == 0 && acl_tell_disconnected(store, sizeof store, 7, name) == 0);
-    CHECK(acl_ask_publish(lent, 0, &client, topic, false) == 16 + ACL_PUBLISH_ALLOWED);
+    CHECK(acl_ask_publish(lent, 0, &client, topic, 0) == 16 + ACL_PUBLISH_ALLOWED);
     CHECK(acl_tell_disconnected(store, sizeof store, 7, id) == 0 && store[14] == 1);
-    CHECK(acl_ask_publish(lent, 0, &client, topic, false) == ACL_PUBLISH_REFUSED);
+    CHECK(acl_ask_publish(lent, 0, &client, topic, 0) == ACL_PUBLISH_REFUSED);
     CHECK(acl_tell_ended(store, sizeof store, 8) == 0 && store[14] == 1);
     CHECK(acl_tell_ended(store, sizeof store, 7) == 0 && store[14] == 0);
 }
 
+/* Each address NULL with length 0, alone and with all others, of calls that would read or write it if it had bytes. Page 0 isn't
+   mapped: one read through NULL would end this program. Bit n of `null` has the call's address n be NULL. */
+#define AT(n, text) (null >> (n) & 1 ? NULL : (const uint8_t *)(text)), (null >> (n) & 1 ? 0 : sizeof(text) - 1)
+#define STORE(n) (null >> (n) & 1 ? NULL : store), (null >> (n) & 1 ? 0 : sizeof store)
+
+static void null_addresses(void) {
+    static uint8_t store[16 + 256 + 326 + 260 + 260];
+    const acl_counts counts = {256, 1, 1, 1};
+    CHECK(acl_tell_open(store, sizeof store, counts, acl_string("[\"allow\",\"all\",\"all\",[\"%c\"]]")) == 0);
+    for (unsigned null = 0; null < 64; null++) {
+        unsigned whole = !(null & 1), three = 16 * ACL_MALFORMED;
+        uint32_t by = acl_connect(STORE(0), 0, AT(1, "i"), 1, AT(2, "n"), 1, AT(3, "p"), 1, AT(4, "a"), 4);
+        CHECK(by == (whole ? 16 + ACL_CONNECT_ALLOWED : three));
+        by = acl_subscribe(STORE(0), 0, AT(1, "i"), 1, AT(2, "n"), 1, AT(3, "p"), 1, AT(4, "a"), 1, 4, AT(5, "t"), 0);
+        CHECK(by == (whole ? ACL_UNSPECIFIED_ERROR : three));
+        by = acl_publish(STORE(0), 0, AT(1, "i"), 1, AT(2, "n"), 1, AT(3, "p"), 1, AT(4, "a"), 1, 4, AT(5, "t"), 0);
+        CHECK(by == (whole ? ACL_PUBLISH_REFUSED : three));
+        by = acl_identity(AT(0, "[\"allow\",{\"user\":\"n\"}]"), AT(1, "i"), 1, AT(2, "n"), 1, AT(3, "p"), 1, AT(4, "a"), 1, 4);
+        CHECK(by == (null & 1 ? ACL_NO_RULE : null & 4 ? ACL_DIFFERS : ACL_AGREES));
+        CHECK(acl_connected(STORE(0), 1, AT(1, "i"), 1, AT(2, "n")) == (whole ? 0 : ACL_MALFORMED));
+        CHECK(acl_disconnected(STORE(0), 1, AT(1, "i")) == (whole ? 0 : ACL_MALFORMED));
+        CHECK(acl_ended(STORE(0), 1) == (whole ? 0 : ACL_MALFORMED));
+    }
+}
+
+static void null_texts(void) {
+    static uint8_t store[16 + 1 + 326 + 260 + 260];
+    for (unsigned null = 0; null < 16; null++) {
+        const char rule[] = "{\"permission\":\"deny\",\"action\":\"all\",\"topic\":\"eq ${clientid}${username}\"}";
+        unsigned hits = (null & 11) == 0 || (null & 11) == 11;
+        uint64_t by = acl_client_subscribe(0, AT(0, "i"), 1, AT(1, "n"), AT(2, rule), 0, AT(3, "in"));
+        CHECK(by == (null & 4 || !hits ? ACL_NO_DECISION : 16 + ACL_NOT_AUTHORIZED));
+        by = acl_client_publish(0, AT(0, "i"), 1, AT(1, "n"), AT(2, rule), 0, 0, 0, AT(3, "in"));
+        CHECK(by == (null & 4 || !hits ? ACL_NO_DECISION : 16 + ACL_PUBLISH_REFUSED));
+        CHECK(acl_tree_match(AT(0, "+"), AT(1, "a")) == (!(null & 1) || null & 2));
+        CHECK(acl_plain_match(AT(0, "+"), AT(1, "a")) == (!(null & 1) || null & 2));
+        CHECK(acl_valid_filter(AT(0, "a+")) == (null & 1));
+        CHECK(acl_is_document(AT(0, "1")) == !(null & 1) && acl_is_document_within(AT(0, "1"), 0) == !(null & 1));
+        CHECK(acl_rule_refusal(AT(0, "[]")) == (null & 1 ? ACL_NOT_JSON : ACL_NOT_A_RULE));
+        CHECK(acl_open(STORE(0), 1, 1, 1, 1, AT(1, "1")) == (null & 1 ? ACL_COUNTS : null & 2 ? 0 : ACL_NOT_A_RULE + 256));
+    }
+}
+
+/* A flag is false at 0 and true at any other value, in each call that takes one. */
+static void flags(void) {
+    static uint8_t store[16 + 256 + 326 + 260 + 260];
+    const acl_counts counts = {256, 1, 1, 1};
+    const char *const rules[] = {"[\"allow\",{\"user\":\"x\"}]", "[\"allow\",{\"user\":\"x\",\"password\":\"x\"}]",
+                                 "[\"allow\",{\"ipaddr\":\"x\"}]", "[\"allow\",{\"protocol\":4}]"};
+    const uint8_t *const x = (const uint8_t *)"x";
+    for (int r = 0; r < 4; r++) {
+        CHECK(acl_tell_open(store, sizeof store, counts, acl_string(rules[r])) == 0);
+        for (unsigned flag = 0; flag < 256; flag++) {
+            uint8_t n = (uint8_t)(r == 0 ? flag : r == 1), p = (uint8_t)(r == 1 ? flag : 0), a = (uint8_t)(r == 2 ? flag : 0),
+                    q = (uint8_t)(r == 3 ? flag : 0), d = (uint8_t)flag;
+            unsigned is = flag != 0;
+            CHECK(acl_identity((const uint8_t *)rules[r], strlen(rules[r]), x, 1, n, x, 1, p, x, 1, a, x, 1, q, 4) == is);
+            CHECK(acl_answer_allows(acl_connect(store, sizeof store, 0, x, 1, n, x, 1, p, x, 1, a, x, 1, 4)) == (is || r == 3));
+            CHECK(acl_answer_allows(acl_subscribe(store, sizeof store, 0, x, 1, n, x, 1, p, x, 1, a, x, 1, q, 4, x, 1, 0)) == is);
+            CHECK(acl_answer_allows(acl_publish(store, sizeof store, 0, x, 1, n, x, 1, p, x, 1, a, x, 1, q, 4, x, 1, d)) == is);
+            CHECK(acl_publish(store, sizeof store, 0, x, 1, 0, x, 1, 0, x, 1, 0, x, 1, 0, 4, x, 1, d) == ACL_PUBLISH_REFUSED + is);
+        }
+    }
+}
+
+static void client_flags(void) {
+    static uint8_t store[16 + 256 + 326 + 260 + 260];
+    const acl_counts counts = {256, 1, 1, 1};
+    const uint8_t *const x = (const uint8_t *)"x";
+    const char rule[] = "{\"permission\":\"deny\",\"action\":\"publish\",\"retain\":true,\"topic\":\"eq x\"}";
+    const char named[] = "{\"permission\":\"deny\",\"action\":\"all\",\"topic\":\"eq ${username}\"}";
+    const uint8_t *const r = (const uint8_t *)rule, *const t = (const uint8_t *)named;
+    const size_t l = sizeof rule - 1, m = sizeof named - 1;
+    for (unsigned flag = 0; flag < 256; flag++) {
+        uint8_t f = (uint8_t)flag;
+        unsigned is = flag != 0;
+        CHECK(acl_client_subscribe(f, x, 1, 0, x, 1, r, l, 2, x, 1) == (is ? ACL_SUBSCRIBE_QOS2 : ACL_NO_DECISION));
+        CHECK(acl_client_publish(f, x, 1, 0, x, 1, r, l, 0, 0, 0, x, 1) == (is ? ACL_PUBLISH_ALLOWED : ACL_NO_DECISION));
+        CHECK(acl_client_publish(0, x, 1, 0, x, 1, r, l, 0, f, 0, x, 1) == (is ? 16 + ACL_PUBLISH_REFUSED : ACL_NO_DECISION));
+        CHECK(acl_client_publish(0, x, 1, 0, x, 1, r, l, 0, 1, f, x, 1) == 16 + ACL_PUBLISH_REFUSED + is);
+        CHECK(acl_client_publish(0, x, 1, f, x, 1, t, m, 0, 1, 0, x, 1) == (is ? 16 + ACL_PUBLISH_REFUSED : 16 * (ACL_NOT_A_RULE + 256)));
+        CHECK(acl_client_subscribe(0, x, 1, f, x, 1, t, m, 0, x, 1) == (is ? 16 + ACL_NOT_AUTHORIZED : 16 * (ACL_NOT_A_RULE + 256)));
+        CHECK(acl_expired(f, 0, 0, 1, 0) == (is ? ACL_EXPIRED : ACL_VALID));
+        CHECK(acl_tell_open(store, sizeof store, counts, acl_string("[\"allow\",\"all\",\"all\",[\"%u\"]]")) == 0);
+        CHECK(acl_connected(store, sizeof store, 0, x, 1, f, x, 1) == 0 && store[10] == 1);
+        CHECK(store[16 + 256 + 2] == is);
+    }
+}
+
+/* Each text at its longest and one past it, in each call that takes it; 0 is the client id, then name, password, address, topic. */
+static void text_lengths(void) {
+    static uint8_t store[16 + 1 + 326 + 260 + 260];
+    static const char long_text[258] = {0};
+    const size_t most[] = {64, 64, 128, 45, 256};
+    const acl_counts counts = {1, 1, 1, 1};
+    const acl_text lent = acl_bytes(store, sizeof store);
+    CHECK(acl_tell_open(store, sizeof store, counts, acl_absent()) == 0);
+    for (int place = 0; place < 5; place++)
+        for (size_t past = 0; past < 2; past++) {
+            acl_text texts[5] = {{"i", 1}, {NULL, 0}, {NULL, 0}, {NULL, 0}, {"t", 1}};
+            texts[place] = acl_bytes(long_text, most[place] + past);
+            const acl_client c = {texts[0], texts[1], texts[2], texts[3], 0, 0};
+            unsigned by = past ? ACL_TOO_LONG : 0;
+            CHECK(acl_answer_refusal(acl_ask_connect(lent, 0, &c)) == (place < 4 ? by : 0));
+            CHECK(acl_answer_refusal(acl_ask_subscribe(lent, 0, &c, texts[4], 0)) == by);
+            CHECK(acl_answer_refusal(acl_ask_publish(lent, 0, &c, texts[4], 0)) == by);
+            unsigned own = place == 2 || place == 3 ? 0 : by;
+            CHECK(acl_answer_refusal(acl_ask_client_subscribe(0, c.id, c.name, acl_absent(), 0, texts[4])) == own);
+            CHECK(acl_answer_refusal(acl_ask_client_publish(0, c.id, c.name, acl_absent(), 0, 0, 0, texts[4])) == own);
+            CHECK(acl_tell_connected(store, sizeof store, 0, c.id, c.name) == (place < 2 ? by : 0));
+            CHECK(acl_tell_disconnected(store, sizeof store, 0, c.id) == (place < 1 ? by : 0));
+            CHECK(acl_ask_identity(acl_string("[\"allow\",\"all\"]"), &c) == ACL_AGREES);
+        }
+}
+
+static uint64_t over(uint64_t most, uint64_t past) { return past == UINT64_MAX ? past : most + past; }
+
+/* Each number that can be refused: the last that isn't, those past it, and the largest. */
+static void numbers(void) {
+    static uint8_t store[16 + 1 + 326 + 260 + 260];
+    const acl_counts counts = {1, 1, 1, 1};
+    const acl_text lent = acl_bytes(store, sizeof store), none = acl_absent(), t = acl_string("t");
+    const acl_client c = {{"i", 1}, {NULL, 0}, {NULL, 0}, {NULL, 0}, 0, 0};
+    const uint64_t past[] = {0, 1, UINT64_C(1) << 8, UINT64_C(1) << 16, UINT64_C(1) << 32, UINT64_C(1) << 63, UINT64_MAX};
+    CHECK(acl_tell_open(store, sizeof store, counts, none) == 0);
+    for (int i = 0; i < 7; i++) {
+        unsigned by = i ? ACL_OUT_OF_RANGE : 0;
+        uint64_t session = over(255, past[i]), four = over(4, past[i]), two = over(2, past[i]), nanoseconds = over(999999999, past[i]);
+        CHECK(acl_tell_connected(store, sizeof store, session, c.id, none) == by);
+        CHECK(acl_tell_disconnected(store, sizeof store, session, c.id) == by && acl_tell_ended(store, sizeof store, session) == by);
+        CHECK(acl_answer_refusal(acl_ask_connect(lent, four, &c)) == by);
+        CHECK(acl_answer_refusal(acl_ask_subscribe(lent, two, &c, t, 0)) == by);
+        CHECK(acl_answer_refusal(acl_ask_subscribe(lent, 0, &c, t, two)) == by);
+        CHECK(acl_answer_refusal(acl_ask_publish(lent, two, &c, t, 0)) == by);
+        CHECK(acl_answer_refusal(acl_ask_client_subscribe(0, c.id, none, none, two, t)) == by);
+        CHECK(acl_answer_refusal(acl_ask_client_publish(1, c.id, none, none, two, 0, 0, t)) == by);
+        CHECK(acl_answer_refusal(acl_expired(1, UINT64_MAX, nanoseconds, UINT64_MAX, 0)) == by);
+        CHECK(acl_answer_refusal(acl_expired(1, UINT64_MAX, 0, UINT64_MAX, nanoseconds)) == by);
+        CHECK(acl_answer_refusal(acl_expired(0, 0, nanoseconds, UINT64_MAX, 0)) == 0);
+        CHECK(acl_answer_refusal(acl_expired(0, 0, 0, UINT64_MAX, nanoseconds)) == by);
+    }
+}
+
 int main(void) {
     unpacks();
-    lengths();
+    counts();
     nulls();
+    null_addresses();
+    null_texts();
+    flags();
+    client_flags();
+    text_lengths();
+    numbers();
     places();
     absent();
     clients();

@@ -7,9 +7,9 @@
 
 static void says(const char *what, uint64_t answer) {
     if (acl_answer_what(answer) == ACL_REFUSED)
-        printf("%-34s error %u, line %u\n", what, acl_answer_number(answer), acl_answer_line(answer));
+        printf("%-34s error %u, line %u\n", what, (unsigned)acl_answer_refusal(answer), (unsigned)acl_answer_line(answer));
     else
-        printf("%-34s %s %u\n", what, acl_answer_word(answer), acl_answer_rule(answer));
+        printf("%-34s %s %u\n", what, acl_answer_word(answer), (unsigned)acl_answer_rule(answer));
 }
 
 static void done(const char *what, uint8_t answer) {
@@ -23,7 +23,7 @@ int main(void) {
     const acl_counts counts = {2048, 64, 32, 64};
     const acl_text rules = acl_string("[\"allow\",{\"user\":\"bo\"},\"publish\",[\"bench/%c/set\"]]\n[\"deny\",\"all\",\"pubsub\"]\n");
     const acl_text topic = acl_string("bench/g7/set");
-    const acl_client g7 = {{"g7", 2}, {"bo", 2}, {NULL, 0}, {NULL, 0}, true, 4};
+    const acl_client g7 = {{"g7", 2}, {"bo", 2}, {NULL, 0}, {NULL, 0}, 1, 4};
 
     size_t length = acl_store_length(counts);
     uint8_t *store = (uint8_t *)malloc(length);
@@ -31,7 +31,7 @@ int main(void) {
 
     /* A rule text whose second line is no rule, then the right one. */
     uint32_t opened = acl_tell_open(store, length, counts, acl_string("[\"deny\",\"all\"]\n[\"perhaps\",\"all\"]\n"));
-    printf("%-34s error %u, line %u\n", "open, a faulty line", acl_open_refusal(opened), acl_open_line(opened));
+    printf("%-34s error %u, line %u\n", "open, a faulty line", (unsigned)acl_open_refusal(opened), (unsigned)acl_open_line(opened));
     opened = acl_tell_open(store, length, counts, rules);
     printf("%-34s %s, %lu bytes\n", "open", opened == 0 ? "done" : "error", (unsigned long)length);
     if (opened != 0) return 1;
@@ -39,29 +39,29 @@ int main(void) {
     const acl_text lent = acl_bytes(store, length);
     says("connect", acl_ask_connect(lent, 0, &g7));
     says("connect, not authorized before", acl_ask_connect(lent, 4, &g7));
-    says("publish before connected", acl_ask_publish(lent, 0, &g7, topic, true));
+    says("publish before connected", acl_ask_publish(lent, 0, &g7, topic, 1));
     done("connected", acl_tell_connected(store, length, 1, g7.id, g7.name));
-    says("publish", acl_ask_publish(lent, 0, &g7, topic, true));
-    says("publish another's", acl_ask_publish(lent, 0, &g7, acl_string("bench/g8/set"), false));
+    says("publish", acl_ask_publish(lent, 0, &g7, topic, 1));
+    says("publish another's", acl_ask_publish(lent, 0, &g7, acl_string("bench/g8/set"), 0));
     says("subscribe", acl_ask_subscribe(lent, 0, &g7, topic, 1));
     says("subscribe, QoS 3", acl_ask_subscribe(lent, 0, &g7, topic, 3));
     done("connected, session 256", acl_tell_connected(store, length, 256, g7.id, g7.name));
     done("disconnected", acl_tell_disconnected(store, length, 1, g7.id));
     done("ended", acl_tell_ended(store, length, 1));
-    says("publish after disconnected", acl_ask_publish(lent, 0, &g7, topic, true));
+    says("publish after disconnected", acl_ask_publish(lent, 0, &g7, topic, 1));
 
     /* The rules that came with a client's credentials; NULL is no user name. */
     const acl_text own = acl_string("{\"permission\":\"allow\",\"action\":\"publish\",\"topic\":\"bench/${clientid}/#\"}\n"
                                     "{\"permission\":\"deny\",\"action\":\"subscribe\",\"qos\":2,\"topic\":\"#\"}\n");
-    says("client: publish", acl_ask_client_publish(false, g7.id, acl_absent(), own, 0, false, true, topic));
-    says("client: publish, another topic", acl_ask_client_publish(false, g7.id, acl_absent(), own, 0, false, true, acl_string("a/b")));
-    says("client: subscribe, QoS 2", acl_ask_client_subscribe(false, g7.id, g7.name, own, 2, topic));
-    says("client: subscribe, a superuser", acl_ask_client_subscribe(true, g7.id, g7.name, own, 2, topic));
-    says("client: a line that is no JSON", acl_ask_client_subscribe(false, g7.id, g7.name, acl_string("{}{"), 0, topic));
+    says("client: publish", acl_ask_client_publish(0, g7.id, acl_absent(), own, 0, 0, 1, topic));
+    says("client: publish, another topic", acl_ask_client_publish(0, g7.id, acl_absent(), own, 0, 0, 1, acl_string("a/b")));
+    says("client: subscribe, QoS 2", acl_ask_client_subscribe(0, g7.id, g7.name, own, 2, topic));
+    says("client: subscribe, a superuser", acl_ask_client_subscribe(1, g7.id, g7.name, own, 2, topic));
+    says("client: a line that is no JSON", acl_ask_client_subscribe(0, g7.id, g7.name, acl_string("{}{"), 0, topic));
 
-    says("expiry 99.5 s, now 99.5 s", acl_expired(true, 99, 500000000, 99, 500000000));
-    says("expiry 99.5 s, now 100 s", acl_expired(true, 99, 500000000, 100, 0));
-    says("no expiry", acl_expired(false, 0, 0, UINT64_MAX, 0));
+    says("expiry 99.5 s, now 99.5 s", acl_expired(1, 99, 500000000, 99, 500000000));
+    says("expiry 99.5 s, now 100 s", acl_expired(1, 99, 500000000, 100, 0));
+    says("no expiry", acl_expired(0, 0, 0, UINT64_MAX, 0));
 
     printf("%-34s T %s, P %s\n", "a/# takes a/$b", acl_ask_tree_match(acl_string("a/#"), acl_string("a/$b")) ? "yes" : "no",
            acl_ask_plain_match(acl_string("a/#"), acl_string("a/$b")) ? "yes" : "no");

@@ -1,9 +1,11 @@
-//! What the calls answer, and how it is read from their numbers (crates/ffi/specs/Answers.antt, Rules.antt
-//! and Clients.antt). No two answers have the same number; a number that is no answer can come only from
-//! another library, and panics.
+//! What the calls answer, and how it is read from their numbers, by the parts that the library takes them apart
+//! into (crates/ffi/specs/Unpacked.antt); what allows is what the library says does. No two answers have the
+//! same number; a number that is no answer can come only from another library, and panics.
 
 use std::error::Error;
 use std::fmt;
+
+use crate::sys::{self, Parts};
 
 /// Why a call is refused: the first cause in document 01's order, "Refusals by operation". All lent memory is
 /// then unchanged.
@@ -39,7 +41,7 @@ impl Refusal {
         self as u8
     }
 
-    fn of(number: u64) -> Refusal {
+    fn of(number: u8) -> Refusal {
         match number {
             1 => Refusal::TooLong,
             2 => Refusal::OutOfRange,
@@ -86,7 +88,7 @@ pub struct LineRefusal {
 }
 
 impl LineRefusal {
-    fn of(number: u64, line: u64) -> LineRefusal {
+    fn of(number: u8, line: u64) -> LineRefusal {
         match u16::try_from(line) {
             Ok(line) if line <= 257 => LineRefusal { refusal: Refusal::of(number), line },
             _ => panic!("{line} is no line"),
@@ -214,34 +216,36 @@ pub enum Identity {
     NoRule,
 }
 
-/// What is answered, below 16, and what it carries.
-fn parts(answer: u64) -> (u64, u64) {
-    (answer % 16, answer / 16)
-}
-
-fn rule(carried: u64) -> u16 {
-    match u16::try_from(carried) {
-        Ok(rule) if rule <= 256 => rule,
-        _ => panic!("{carried} is no rule"),
+impl Parts {
+    /// The deciding rule.
+    fn by(self) -> u16 {
+        match u16::try_from(self.rule) {
+            Ok(rule) if rule <= 256 => rule,
+            _ => panic!("{} is no rule", self.rule),
+        }
     }
-}
 
-fn code(carried: u64) -> u8 {
-    match carried {
-        2 => 2,
-        3 => 3,
-        4 => 4,
-        _ => panic!("{carried} is no kept code"),
+    /// The code that is kept.
+    fn kept(self) -> u8 {
+        match self.code {
+            2 => 2,
+            3 => 3,
+            4 => 4,
+            code => panic!("{code} is no kept code"),
+        }
     }
-}
 
-/// 4 to 6 is an allowed subscribe with QoS 0 to 2.
-fn qos(what: u64) -> u8 {
-    match what {
-        4 => 0,
-        5 => 1,
-        6 => 2,
-        _ => panic!("{what} has no QoS"),
+    /// The refusal of a call that has no lines.
+    fn refused(self) -> Refusal {
+        match self.line {
+            0 => Refusal::of(self.refusal),
+            line => panic!("{line} is a line of no text"),
+        }
+    }
+
+    /// The refusal of a call by the text of the client's rules.
+    fn refused_at(self) -> LineRefusal {
+        LineRefusal::of(self.refusal, self.line)
     }
 }
 
@@ -249,15 +253,15 @@ fn qos(what: u64) -> u8 {
 pub(crate) fn done(answer: u8) -> Result<(), Refusal> {
     match answer {
         0 => Ok(()),
-        number => Err(Refusal::of(number.into())),
+        number => Err(Refusal::of(number)),
     }
 }
 
-/// 0 done, else the number and 256 times the line.
+/// 0 done, else the number and its line.
 pub(crate) fn opened(answer: u32) -> Result<(), LineRefusal> {
-    match answer {
-        0 => Ok(()),
-        _ => Err(LineRefusal::of((answer % 256).into(), (answer / 256).into())),
+    match sys::open_parts(answer) {
+        (0, 0) => Ok(()),
+        (number, line) => Err(LineRefusal::of(number, line.into())),
     }
 }
 
@@ -272,63 +276,66 @@ pub(crate) fn identity(answer: u8) -> Identity {
 }
 
 pub(crate) fn connect(answer: u32) -> Result<Connect, Refusal> {
-    match parts(answer.into()) {
-        (0, number) => Err(Refusal::of(number)),
-        (1, kept) => Ok(Connect::Kept(code(kept))),
-        (2, by) => Ok(Connect::Allow { rule: rule(by), superuser: false }),
-        (3, by) => Ok(Connect::Allow { rule: rule(by), superuser: true }),
-        (8, by) => Ok(Connect::Refuse { rule: rule(by) }),
+    let parts = sys::parts(answer.into());
+    match parts.what {
+        0 => Err(parts.refused()),
+        1 => Ok(Connect::Kept(parts.kept())),
+        2 | 3 if parts.allows => Ok(Connect::Allow { rule: parts.by(), superuser: parts.superuser }),
+        8 => Ok(Connect::Refuse { rule: parts.by() }),
         _ => panic!("{answer} is no answer of acl_connect"),
     }
 }
 
 pub(crate) fn subscribe(answer: u32) -> Result<Subscribe, Refusal> {
-    match parts(answer.into()) {
-        (0, number) => Err(Refusal::of(number)),
-        (1, kept) => Ok(Subscribe::Kept(code(kept))),
-        (what @ 4..=6, by) => Ok(Subscribe::Allow { rule: rule(by), qos: qos(what) }),
-        (11, by) => Ok(Subscribe::Refuse { rule: rule(by) }),
+    let parts = sys::parts(answer.into());
+    match parts.what {
+        0 => Err(parts.refused()),
+        1 => Ok(Subscribe::Kept(parts.kept())),
+        4..=6 if parts.allows => Ok(Subscribe::Allow { rule: parts.by(), qos: parts.qos }),
+        11 => Ok(Subscribe::Refuse { rule: parts.by() }),
         _ => panic!("{answer} is no answer of acl_subscribe"),
     }
 }
 
 pub(crate) fn publish(answer: u32) -> Result<Publish, Refusal> {
-    match parts(answer.into()) {
-        (0, number) => Err(Refusal::of(number)),
-        (1, kept) => Ok(Publish::Kept(code(kept))),
-        (7, by) => Ok(Publish::Allow { rule: rule(by) }),
-        (9, by) => Ok(Publish::Refuse { rule: rule(by), disconnect: false }),
-        (10, by) => Ok(Publish::Refuse { rule: rule(by), disconnect: true }),
+    let parts = sys::parts(answer.into());
+    match parts.what {
+        0 => Err(parts.refused()),
+        1 => Ok(Publish::Kept(parts.kept())),
+        7 if parts.allows => Ok(Publish::Allow { rule: parts.by() }),
+        9 | 10 => Ok(Publish::Refuse { rule: parts.by(), disconnect: parts.disconnect }),
         _ => panic!("{answer} is no answer of acl_publish"),
     }
 }
 
 pub(crate) fn client_subscribe(answer: u64) -> Result<ClientSubscribe, LineRefusal> {
-    match parts(answer) {
-        (0, number) => Err(LineRefusal::of(number % 256, number / 256)),
-        (what @ 4..=6, by) => Ok(ClientSubscribe::Allow { rule: rule(by), qos: qos(what) }),
-        (8, by) => Ok(ClientSubscribe::Refuse { rule: rule(by) }),
-        (12, 0) => Ok(ClientSubscribe::NoDecision),
+    let parts = sys::parts(answer);
+    match parts.what {
+        0 => Err(parts.refused_at()),
+        4..=6 if parts.allows => Ok(ClientSubscribe::Allow { rule: parts.by(), qos: parts.qos }),
+        8 => Ok(ClientSubscribe::Refuse { rule: parts.by() }),
+        12 => Ok(ClientSubscribe::NoDecision),
         _ => panic!("{answer} is no answer of acl_client_subscribe"),
     }
 }
 
 pub(crate) fn client_publish(answer: u64) -> Result<ClientPublish, LineRefusal> {
-    match parts(answer) {
-        (0, number) => Err(LineRefusal::of(number % 256, number / 256)),
-        (7, by) => Ok(ClientPublish::Allow { rule: rule(by) }),
-        (9, by) => Ok(ClientPublish::Refuse { rule: rule(by), disconnect: false }),
-        (10, by) => Ok(ClientPublish::Refuse { rule: rule(by), disconnect: true }),
-        (12, 0) => Ok(ClientPublish::NoDecision),
+    let parts = sys::parts(answer);
+    match parts.what {
+        0 => Err(parts.refused_at()),
+        7 if parts.allows => Ok(ClientPublish::Allow { rule: parts.by() }),
+        9 | 10 => Ok(ClientPublish::Refuse { rule: parts.by(), disconnect: parts.disconnect }),
+        12 => Ok(ClientPublish::NoDecision),
         _ => panic!("{answer} is no answer of acl_client_publish"),
     }
 }
 
 pub(crate) fn expired(answer: u64) -> Result<bool, Refusal> {
-    match parts(answer) {
-        (0, number) => Err(Refusal::of(number)),
-        (13, 0) => Ok(false),
-        (14, 0) => Ok(true),
+    let parts = sys::parts(answer);
+    match parts.what {
+        0 => Err(parts.refused()),
+        13 => Ok(false),
+        14 => Ok(true),
         _ => panic!("{answer} is no answer of acl_expired"),
     }
 }
@@ -386,9 +393,11 @@ mod tests {
         assert!(panics(|| connect(16 * 257 + 2)));
         assert!(panics(|| subscribe(2)));
         assert!(panics(|| publish(15)));
-        assert!(panics(|| client_publish(16 + 12)));
+        assert!(panics(|| connect(16 * 257 * 16)));
+        assert!(panics(|| client_publish(11)));
+        assert!(panics(|| client_publish(u64::MAX)));
         assert!(panics(|| client_subscribe(16 * (1 + 256 * 258))));
-        assert!(panics(|| expired(16 + 13)));
+        assert!(panics(|| expired(12)));
         assert!(panics(|| identity(4)));
     }
 }

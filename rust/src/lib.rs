@@ -14,7 +14,7 @@
 //! Texts are bytes, of any content. No call allocates but [`Store::open`], and none keeps what it is lent. A
 //! refusal is an `Err` with document 01's number, and then nothing has changed. No call panics, whatever it
 //! is given; only a number that is no answer does, which the library is proved not to give. An empty slice
-//! may be lent everywhere: its address is dangling, never null, and nothing is read from it.
+//! may be lent everywhere: nothing is read from its address.
 //!
 //! ```
 //! use mqtt_acl::{Client, Connect, Counts, Publish, Store};

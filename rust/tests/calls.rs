@@ -245,6 +245,7 @@ fn lengths() {
     assert_eq!(store.publish(0, none, None, &long, true), Err(Refusal::TooLong));
     assert_eq!(own.subscribe(0, &long[..256]), Ok(ClientSubscribe::NoDecision));
     assert_eq!(own.subscribe(0, &long), Err(at(Refusal::TooLong, 0)));
+    assert_eq!(own.publish(0, false, false, &long[..256]), Ok(ClientPublish::NoDecision));
     assert_eq!(own.publish(0, false, false, &long), Err(at(Refusal::TooLong, 0)));
 }
 

@@ -29,6 +29,8 @@ use Rattle.questions.specs.Decision.{Wish, client, wish, keeps, ruleAgrees, fir
 use Rattle.questions.specs.Parts.{protocolOf}
 use Rattle.questions.proofs.AskLaws.{refuses-by, refuses-malformed, keeps-by, decides-by}
 use Rattle.ffi.specs.Answers.{openNumber, decisionNumber, packed}
+use Rattle.ffi.specs.Unpacked.{readOpen}
+use Rattle.ffi.proofs.Reading.{open-back}
 
 -- ---- number 1, then number 2
 
@@ -44,7 +46,7 @@ first-none true b e = cc
 first-none false true e = cc
 first-none false false e = refl
 
-cause-small : (q : Question) (n : ℕ) → questionCause q ≡ some n → n ≤ 2
+pub cause-small : (q : Question) (n : ℕ) → questionCause q ≡ some n → n ≤ 2
 unfolding questionCause
 cause-small (connect earlier c) n e = first-small (clientOver c) (ltb connectLimit earlier) n e
 cause-small (subscribe earlier c topic qos) n e = first-small (clientOver c || over textLimit topic) (ltb codeLimit earlier || ltb qosLimit qos) n e
@@ -175,6 +177,19 @@ number-small FiltersFull = omega arith
 number-small EqsFull = omega arith
 number-small NotesFull = omega arith
 
+number-some : (cause : Refusal) → 1 ≤ number cause
+unfolding number
+number-some TooLong = omega arith
+number-some OutOfRange = omega arith
+number-some Malformed = omega arith
+number-some CountsCause = omega arith
+number-some NotJson = omega arith
+number-some NotARule = omega arith
+number-some FilledTooLong = omega arith
+number-some FiltersFull = omega arith
+number-some EqsFull = omega arith
+number-some NotesFull = omega arith
+
 fault-line : (n : ℕ) (ls : List (List ℕ)) (f : Fault) → faultIn n ls ≡ some f → f .line < n + length ls
 unfolding faultIn
 fault-line n [] f e = let z : _≡_ {A = ℕ} 0 1 = cc in omega arith
@@ -212,6 +227,16 @@ open-small c text room = by (openFault c text room) refl
     by : (o : Option Fault) → openFault c text room ≡ o → openNumber (Option·map told o) ≤ 66047
     by none e = omega arith
     by (some f) e = omega (arith, number-small (f .cause), open-line c text room f e)
+
+-- every answer of opening is what its number says
+pub open-read-back : (c : Counts) (text : List ℕ) (room : ℕ)
+    → readOpen (openNumber (Option·map told (openFault c text room))) ≡ Option·map told (openFault c text room)
+unfolding openNumber told readOpen
+open-read-back c text room = by (openFault c text room)
+  where
+    by : (o : Option Fault) → readOpen (openNumber (Option·map told o)) ≡ Option·map told o
+    by none = refl
+    by (some f) = open-back (number (f .cause)) (f .line) (number-small (f .cause)) (number-some (f .cause))
 
 -- ---- the protocol that counts where its flag is true
 

@@ -1,14 +1,13 @@
 -- The numbers that the per-client calls answer are small (a rule is at most 256, a line 257, a QoS 2), and an answer is read back from its
--- number, so that no two have the same. Assumes nothing.
-use Prim.Native.Nat.{ℕ, zero, suc, _+_, _*_, _/_, _%_, _≤_, _<_}
+-- number's parts, so that no two have the same. Assumes nothing.
+use Prim.Native.Nat.{ℕ, zero, suc, _+_, _≤_, _<_}
 use mathlib.Core.Path.{_≡_, refl, ap, _∙_}
 use mathlib.Core.Bool.{Bool, true, false, _||_, cond}
 use mathlib.Core.List.{List, [], _∷_}
 use mathlib.Core.Option.{Option, none, some}
-use native.Mathlib.Nat.{mul-add-div, mul-add-mod-self-left, mod-eq-of-lt, div-eq-of-lt}
 use native.Mathlib.Omega.{arith}
 use borrow.Author.Tests.{ltb-false}
-use lib.Dec.{ltb, eqb}
+use lib.Dec.{ltb}
 use lib.ListN.{length}
 use Rattle.json.specs.Lines.{lines}
 use Rattle.rule.specs.Limits.{linesLimit}
@@ -21,7 +20,9 @@ use Rattle.authinfo.specs.Decision.{subscribes, publishes, not-authorized, no-d
 use Rattle.authinfo.specs.Expiry as expiry
 use Rattle.authinfo.specs.declared.Expiry.{Expiry}
 use Rattle.ffi.specs.Clients.{decisionNumber, packed, expiryNumber}
+use Rattle.ffi.specs.Unpacked.{Parts, partsBy, parts, byClient, onExpiry, clientAllows}
 use Rattle.ffi.proofs.AnswerLaws.{number-small}
+use Rattle.ffi.proofs.Reading.{back, number-back, line-back, refusal-back}
 
 -- ---- what a question is answered
 
@@ -132,69 +133,44 @@ client-small c rules q = answered-small (answered c rules q)
 
 -- ---- reading back
 
--- by what is answered, and the rule, or the number and line, beside it
-unfoldable pub unpackedBy : ℕ → ℕ → Reply
-unpackedBy what v =
-    cond (eqb what 0) (refuses (v % 256) (v / 256))
-    (cond (eqb what 4) (decides (subscribes v 0))
-    (cond (eqb what 5) (decides (subscribes v 1))
-    (cond (eqb what 6) (decides (subscribes v 2))
-    (cond (eqb what 7) (decides (publishes v))
-    (cond (eqb what 8) (decides (not-authorized v none))
-    (cond (eqb what 9) (decides (not-authorized v (some false)))
-    (cond (eqb what 10) (decides (not-authorized v (some true))) (decides no-decision))))))))
+-- its number's parts are those of the answer
+abbrev Back : Reply → Type 0
+Back r = (byClient (parts (packed r)) ≡ some r) × (parts (packed r) .allows ≡ clientAllows r)
 
-unfoldable pub unpacked : ℕ → Reply
-unpacked n = unpackedBy (n % 16) (n / 16)
+told : (r : Reply) {p : Parts} → parts (packed r) ≡ p → byClient p ≡ some r → p .allows ≡ clientAllows r → Back r
+told r e reply allow = (ap byClient e ∙ reply, ap (λ (p : Parts). p .allows) e ∙ allow)
 
-back : (what v : ℕ) → what % 16 ≡ what → what / 16 ≡ 0 → unpacked (16 * v + what) ≡ unpackedBy what v
-unfolding unpacked
-back what v m d =
-    let low = mul-add-mod-self-left 16 v what ∙ m in
-    let none-left : v + what / 16 ≡ v = omega arith in
-    let high = mul-add-div {m = 16} (omega arith) v what ∙ none-left in
-    λ i. unpackedBy (low i) (high i)
-
--- the number and the line beside it
-refusal-back : (n line : ℕ) → n ≤ 10 → unpackedBy 0 (256 * line + n) ≡ refuses n line
-unfolding unpackedBy
-refusal-back n line h =
-    let low = mul-add-mod-self-left 256 line n ∙ mod-eq-of-lt (omega (arith, h)) in
-    let none-left : n / 256 ≡ 0 = div-eq-of-lt (omega (arith, h)) in
-    let high : (256 * line + n) / 256 ≡ line = mul-add-div {m = 256} (omega arith) line n ∙ omega (arith, none-left) in
-    λ i. refuses (low i) (high i)
-
-answered-back : {r : Reply} → Answered r → unpacked (packed r) ≡ r
-unfolding packed decisionNumber unpackedBy
+answered-back : {r : Reply} → Answered r → Back r
+unfolding packed decisionNumber partsBy byClient clientAllows
 answered-back (by-number n line h l) =
-    let e : 16 * (n + 256 * line) ≡ 16 * (256 * line + n) + 0 = omega arith in
-    ap unpacked e ∙ back 0 (256 * line + n) refl refl ∙ refusal-back n line h
-answered-back (subscribed rule zero h l) = back 4 rule refl refl
-answered-back (subscribed rule (suc zero) h l) = back 5 rule refl refl
-answered-back (subscribed rule (suc (suc zero)) h l) = back 6 rule refl refl
+    told (refuses n line) (refusal-back n line h) (λ i. some (refuses (number-back n line h i) (line-back n line h i))) refl
+answered-back (subscribed rule zero h l) = told (decides (subscribes rule 0)) (back 4 rule refl refl) refl refl
+answered-back (subscribed rule (suc zero) h l) = told (decides (subscribes rule 1)) (back 5 rule refl refl) refl refl
+answered-back (subscribed rule (suc (suc zero)) h l) = told (decides (subscribes rule 2)) (back 6 rule refl refl) refl refl
 answered-back (subscribed rule (suc (suc (suc n))) h l) = absurd (omega arith)
-answered-back (published rule h) = back 7 rule refl refl
-answered-back (denied rule none h) = back 8 rule refl refl
-answered-back (denied rule (some false) h) = back 9 rule refl refl
-answered-back (denied rule (some true) h) = back 10 rule refl refl
-answered-back undecided = back 12 0 refl refl
+answered-back (published rule h) = told (decides (publishes rule)) (back 7 rule refl refl) refl refl
+answered-back (denied rule none h) = told (decides (not-authorized rule none)) (back 8 rule refl refl) refl refl
+answered-back (denied rule (some false) h) = told (decides (not-authorized rule (some false))) (back 9 rule refl refl) refl refl
+answered-back (denied rule (some true) h) = told (decides (not-authorized rule (some true))) (back 10 rule refl refl) refl refl
+answered-back undecided = told (decides no-decision) (back 12 0 refl refl) refl refl
 
 -- every answer of a per-client question, on any text of rules, is what its number says
-pub client-read-back : (c : Client) (rules : List ℕ) (q : Question) → unpacked (packed (ask c rules q)) ≡ ask c rules q
-client-read-back c rules q = answered-back (answered c rules q)
+pub client-read-back : (c : Client) (rules : List ℕ) (q : Question) → byClient (parts (packed (ask c rules q))) ≡ some (ask c rules q)
+client-read-back c rules q = answered-back (answered c rules q) .0
+
+-- and says that it allows where it does
+pub client-allows-back : (c : Client) (rules : List ℕ) (q : Question) → parts (packed (ask c rules q)) .allows ≡ clientAllows (ask c rules q)
+client-allows-back c rules q = answered-back (answered c rules q) .1
 
 -- and of an expiry
-unfoldable pub expiryUnpacked : ℕ → expiry.Reply
-expiryUnpacked n = cond (eqb n 13) (expiry.decides false) (cond (eqb n 14) (expiry.decides true) (expiry.refuses (n / 16)))
-
 pub expiry-read-back : (e : Expiry) (seconds nanoseconds : ℕ)
-    → expiryUnpacked (expiryNumber (expiry.expiry e seconds nanoseconds)) ≡ expiry.expiry e seconds nanoseconds
-unfolding expiry.expiry expiryUnpacked expiryNumber
+    → onExpiry (parts (expiryNumber (expiry.expiry e seconds nanoseconds))) ≡ some (expiry.expiry e seconds nanoseconds)
+unfolding expiry.expiry expiryNumber parts partsBy onExpiry
 expiry-read-back e seconds nanoseconds =
     by (expiry.expiryOver e || expiry.overNanoseconds nanoseconds) (expiry.isExpired e seconds nanoseconds)
   where
     by : (over is : Bool)
-        → expiryUnpacked (expiryNumber (cond over (expiry.refuses 2) (expiry.decides is))) ≡ cond over (expiry.refuses 2) (expiry.decides is)
+        → onExpiry (parts (expiryNumber (cond over (expiry.refuses 2) (expiry.decides is)))) ≡ some (cond over (expiry.refuses 2) (expiry.decides is))
     by true is = refl
     by false true = refl
     by false false = refl

@@ -1,4 +1,5 @@
 mod Laws
+mod Reading
 mod AnswerLaws
 mod Unpacked
 mod ClientLaws

@@ -1,13 +1,12 @@
--- From its number an answer of a question, or of an event, is read back, so that no two have the same. Assumes nothing.
-use Prim.Native.Nat.{ℕ, zero, suc, _+_, _*_, _/_, _%_, _≤_}
+-- From the parts of its number an answer of a question, or of an event, is read back, so that no two have the same. Assumes nothing.
+use Prim.Native.Nat.{ℕ, zero, suc, _≤_}
 use mathlib.Core.Path.{_≡_, refl, ap, _∙_}
 use mathlib.Core.Bool.{Bool, true, false, _||_, cond}
 use mathlib.Core.List.{List, [], _∷_}
 use mathlib.Core.Option.{Option, none, some}
-use native.Mathlib.Nat.{mul-add-div, mul-add-mod-self-left}
 use native.Mathlib.Omega.{arith}
 use borrow.Author.Tests.{ltb-false}
-use lib.Dec.{ltb, eqb}
+use lib.Dec.{ltb}
 use Rattle.text.proofs.Laws.{or-split}
 use Rattle.rule.specs.Limits.{textLimit}
 use Rattle.rule.specs.Refusals.{first}
@@ -20,40 +19,14 @@ use Rattle.questions.specs.Decision.{keeps, refusal, allowance, byRule, ask}
 use Rattle.questions.proofs.AskLaws.{refuses-by, refuses-malformed, keeps-by, decides-by}
 use Rattle.events.specs.Event.{Event, connected as connects-event, disconnected, ended, argumentCauses, storeCauses, cause}
 use Rattle.ffi.specs.Answers.{decisionNumber, packed, eventNumber}
-use Rattle.ffi.proofs.AnswerLaws.{first-none}
-
--- ---- reading back
-
--- by what is answered, and the rule, code or number beside it
-unfoldable pub unpackedBy : ℕ → ℕ → Reply
-unpackedBy what v =
-    cond (eqb what 0) (refuses v 0)
-    (cond (eqb what 1) (decides (kept v))
-    (cond (eqb what 2) (decides (connects v false))
-    (cond (eqb what 3) (decides (connects v true))
-    (cond (eqb what 4) (decides (subscribes v 0))
-    (cond (eqb what 5) (decides (subscribes v 1))
-    (cond (eqb what 6) (decides (subscribes v 2))
-    (cond (eqb what 7) (decides (publishes v))
-    (cond (eqb what 8) (decides (not-authorized v none))
-    (cond (eqb what 9) (decides (not-authorized v (some false)))
-    (cond (eqb what 10) (decides (not-authorized v (some true))) (decides (unspecified-error v))))))))))))
-
-unfoldable pub unpacked : ℕ → Reply
-unpacked n = unpackedBy (n % 16) (n / 16)
-
-back : (what v : ℕ) → what % 16 ≡ what → what / 16 ≡ 0 → unpacked (16 * v + what) ≡ unpackedBy what v
-unfolding unpacked
-back what v m d =
-    let low = mul-add-mod-self-left 16 v what ∙ m in
-    let none-left : v + what / 16 ≡ v = omega arith in
-    let high = mul-add-div {m = 16} (omega arith) v what ∙ none-left in
-    λ i. unpackedBy (low i) (high i)
+use Rattle.ffi.specs.Unpacked.{Parts, partsBy, parts, onStore, storeAllows}
+use Rattle.ffi.proofs.AnswerLaws.{first-none, cause-small}
+use Rattle.ffi.proofs.Reading.{back, number-back, line-back, refusal-back}
 
 -- ---- what a question is answered
 
 data Answered : Reply → Type 0 where
-  by-number : (n : ℕ) → Answered (refuses n 0)
+  by-number : (n : ℕ) → n ≤ 10 → Answered (refuses n 0)
   by-code : (code : ℕ) → Answered (decides (kept code))
   connected : (rule : ℕ) (flag : Bool) → Answered (decides (connects rule flag))
   subscribed : (rule qos : ℕ) → qos ≤ 2 → Answered (decides (subscribes rule qos))
@@ -61,21 +34,28 @@ data Answered : Reply → Type 0 where
   denied : (rule : ℕ) (disconnect : Option Bool) → Answered (decides (not-authorized rule disconnect))
   failed : (rule : ℕ) → Answered (decides (unspecified-error rule))
 
-answered-back : {r : Reply} → Answered r → unpacked (packed r) ≡ r
-unfolding packed decisionNumber unpackedBy
-answered-back (by-number n) = let e : 16 * (n + 256 * 0) ≡ 16 * n + 0 = omega arith in ap unpacked e ∙ back 0 n refl refl
-answered-back (by-code code) = back 1 code refl refl
-answered-back (connected rule false) = back 2 rule refl refl
-answered-back (connected rule true) = back 3 rule refl refl
-answered-back (subscribed rule zero h) = back 4 rule refl refl
-answered-back (subscribed rule (suc zero) h) = back 5 rule refl refl
-answered-back (subscribed rule (suc (suc zero)) h) = back 6 rule refl refl
+-- its number's parts are those of the answer
+abbrev Back : Reply → Type 0
+Back r = (onStore (parts (packed r)) ≡ some r) × (parts (packed r) .allows ≡ storeAllows r)
+
+told : (r : Reply) {p : Parts} → parts (packed r) ≡ p → onStore p ≡ some r → p .allows ≡ storeAllows r → Back r
+told r e reply allow = (ap onStore e ∙ reply, ap (λ (p : Parts). p .allows) e ∙ allow)
+
+answered-back : {r : Reply} → Answered r → Back r
+unfolding packed decisionNumber partsBy onStore storeAllows
+answered-back (by-number n h) = told (refuses n 0) (refusal-back n 0 h) (λ i. some (refuses (number-back n 0 h i) (line-back n 0 h i))) refl
+answered-back (by-code code) = told (decides (kept code)) (back 1 code refl refl) refl refl
+answered-back (connected rule false) = told (decides (connects rule false)) (back 2 rule refl refl) refl refl
+answered-back (connected rule true) = told (decides (connects rule true)) (back 3 rule refl refl) refl refl
+answered-back (subscribed rule zero h) = told (decides (subscribes rule 0)) (back 4 rule refl refl) refl refl
+answered-back (subscribed rule (suc zero) h) = told (decides (subscribes rule 1)) (back 5 rule refl refl) refl refl
+answered-back (subscribed rule (suc (suc zero)) h) = told (decides (subscribes rule 2)) (back 6 rule refl refl) refl refl
 answered-back (subscribed rule (suc (suc (suc n))) h) = absurd (omega arith)
-answered-back (published rule) = back 7 rule refl refl
-answered-back (denied rule none) = back 8 rule refl refl
-answered-back (denied rule (some false)) = back 9 rule refl refl
-answered-back (denied rule (some true)) = back 10 rule refl refl
-answered-back (failed rule) = back 11 rule refl refl
+answered-back (published rule) = told (decides (publishes rule)) (back 7 rule refl refl) refl refl
+answered-back (denied rule none) = told (decides (not-authorized rule none)) (back 8 rule refl refl) refl refl
+answered-back (denied rule (some false)) = told (decides (not-authorized rule (some false))) (back 9 rule refl refl) refl refl
+answered-back (denied rule (some true)) = told (decides (not-authorized rule (some true))) (back 10 rule refl refl) refl refl
+answered-back (failed rule) = told (decides (unspecified-error rule)) (back 11 rule refl refl) refl refl
 
 refusal-answered : (q : Question) (n : ℕ) → Answered (decides (refusal q n))
 unfolding refusal
@@ -105,19 +85,23 @@ laid-answered q s v e h (some code) k = rw (keeps-by q s e h k) (by-code code)
 laid-answered q s v e h none k = rw (decides-by q s e h k) (by-rule-answered q _ e)
 
 view-answered : (q : Question) (s : List ℕ) → questionCause q ≡ none → (o : Option View) → view s ≡ o → Answered (ask q s)
-view-answered q s e none h = rw (refuses-malformed q s e h) (by-number 3)
+view-answered q s e none h = rw (refuses-malformed q s e h) (by-number 3 (omega arith))
 view-answered q s e (some v) h = laid-answered q s v e h (keeps q) refl
 
 answered : (q : Question) (s : List ℕ) → Answered (ask q s)
 answered q s = by (questionCause q) refl
   where
     by : (o : Option ℕ) → questionCause q ≡ o → Answered (ask q s)
-    by (some n) e = rw (refuses-by q s e) (by-number n)
+    by (some n) e = rw (refuses-by q s e) (by-number n (omega (arith, cause-small q n e)))
     by none e = view-answered q s e (view s) refl
 
 -- every answer of a question, on any store, is what its number says
-pub read-back : (q : Question) (s : List ℕ) → unpacked (packed (ask q s)) ≡ ask q s
-read-back q s = answered-back (answered q s)
+pub read-back : (q : Question) (s : List ℕ) → onStore (parts (packed (ask q s))) ≡ some (ask q s)
+read-back q s = answered-back (answered q s) .0
+
+-- and says that it allows where it does
+pub allows-back : (q : Question) (s : List ℕ) → parts (packed (ask q s)) .allows ≡ storeAllows (ask q s)
+allows-back q s = answered-back (answered q s) .1
 
 -- ---- events: 0 is none, as no cause has that number
 
@@ -125,19 +109,19 @@ unfoldable pub unpackedEvent : ℕ → Option ℕ
 unpackedEvent zero = none
 unpackedEvent (suc n) = some (suc n)
 
-abbrev Back : Option ℕ → Type 0
-Back o = unpackedEvent (eventNumber o) ≡ o
+abbrev EventBack : Option ℕ → Type 0
+EventBack o = unpackedEvent (eventNumber o) ≡ o
 
-cause-back : (b : Bool) (n : ℕ) (causes : List (Bool × ℕ)) → Back (first causes) → Back (first ((b, suc n) ∷ causes))
+cause-back : (b : Bool) (n : ℕ) (causes : List (Bool × ℕ)) → EventBack (first causes) → EventBack (first ((b, suc n) ∷ causes))
 unfolding first eventNumber unpackedEvent
 cause-back true n causes h = refl
 cause-back false n causes h = h
 
-none-back : Back (first [])
+none-back : EventBack (first [])
 unfolding first eventNumber unpackedEvent
 none-back = refl
 
-malformed-back : Back (first ((true, 3) ∷ []))
+malformed-back : EventBack (first ((true, 3) ∷ []))
 malformed-back = cause-back true 2 [] none-back
 
 -- every answer of an event, on any store, is what its number says

@@ -1,3 +1,4 @@
 pub mod Rules
 pub mod Answers
 pub mod Clients
+pub mod Unpacked

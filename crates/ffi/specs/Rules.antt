@@ -1,14 +1,23 @@
 -- What the calls about a rule line answer, as numbers.
 use Prim.Native.Nat.{ℕ}
-use mathlib.Core.Bool.{Bool, cond}
+use mathlib.Core.Bool.{Bool, cond, not}
 use mathlib.Core.List.{List}
 use mathlib.Core.Option.{Option, none, some}
+use lib.Dec.{eqb}
 use Rattle.rule.specs.Refusals.{number}
 use Rattle.rule.specs.Rule.{Rule, means}
 use Rattle.rule.specs.RuleText.{Result, refused, gives, readRule}
 use Rattle.rule.specs.Identity.{Client, identity}
 use Rattle.rule.specs.declared.Identity.{Identity}
 use Rattle.rule.specs.declared.Identity.the-variants.{Agrees, Differs}
+
+-- a flag that a host hands over: 0 is false, every other number true
+unfoldable pub flag : ℕ → Bool
+flag n = not (eqb n 0)
+
+-- a yes or no that a host is told: 1 yes, 0 no
+unfoldable pub yes : Bool → ℕ
+yes is = cond is 1 0
 
 -- a value that counts where its flag is true
 unfoldable pub where-true : {A : Type 0} → Bool → A → Option A

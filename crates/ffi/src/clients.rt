@@ -1,5 +1,6 @@
 // The per-client rules for a host: subscribe and publish by the rules that came with a client's credentials, and whether these still hold.
 // Answers are the numbers of specs/Clients.antt; an optional value counts where its flag is true.
+use crate::flag;
 use crate::given_text;
 use crate::refusal_number;
 use authinfo::Expiry;
@@ -14,7 +15,7 @@ ghost use Prim.Native.Nat.{_+_, _*_, _≤_};
 ghost use Rattle.authinfo.specs.Decision as decision;
 ghost use Rattle.authinfo.specs.Answers as said;
 ghost use Rattle.authinfo.specs.Expiry as expiry;
-ghost use Rattle.ffi.specs.Rules.{where-true};
+ghost use Rattle.ffi.specs.Rules.{where-true, flag};
 ghost use Rattle.ffi.specs.Clients as clients;
 
 // What is answered, below 16, with its rule, or its number and line.
@@ -42,18 +43,18 @@ fn subscribe_number(answer: SubscribeAnswer) -> u64
 // May the client subscribe to the topic, by its rules?
 #[no_mangle]
 pub extern "C" fn acl_client_subscribe(
-    superuser: bool,
+    superuser: u8,
     id: &[u8],
-    has_name: bool,
+    has_name: u8,
     name: &[u8],
     rules: &[u8],
     qos: u64,
     topic: &[u8],
 ) -> u64
-    ensures { λ r. ⌜ r ≡ clients.packed (decision.ask (record { superuser = superuser; id = now (id .entry); name = where-true «has_name» (now (name .entry)) }) (now (rules .entry)) (decision.subscribe qos (now (topic .entry)))) ⌝ }
+    ensures { λ r. ⌜ r ≡ clients.packed (decision.ask (record { superuser = flag superuser; id = now (id .entry); name = where-true (flag «has_name») (now (name .entry)) }) (now (rules .entry)) (decision.subscribe qos (now (topic .entry)))) ⌝ }
 {
     subscribe_number(client_subscribe(
-        superuser,
+        flag(superuser),
         id,
         given_text(has_name, name),
         name,
@@ -85,35 +86,35 @@ fn publish_number(answer: PublishAnswer) -> u64
 // May the client publish to the topic, by its rules? A refusal by a rule carries the disconnect flag.
 #[no_mangle]
 pub extern "C" fn acl_client_publish(
-    superuser: bool,
+    superuser: u8,
     id: &[u8],
-    has_name: bool,
+    has_name: u8,
     name: &[u8],
     rules: &[u8],
     qos: u64,
-    retain: bool,
-    disconnect: bool,
+    retain: u8,
+    disconnect: u8,
     topic: &[u8],
 ) -> u64
-    ensures { λ r. ⌜ r ≡ clients.packed (decision.ask (record { superuser = superuser; id = now (id .entry); name = where-true «has_name» (now (name .entry)) }) (now (rules .entry)) (decision.publish qos retain disconnect (now (topic .entry)))) ⌝ }
+    ensures { λ r. ⌜ r ≡ clients.packed (decision.ask (record { superuser = flag superuser; id = now (id .entry); name = where-true (flag «has_name») (now (name .entry)) }) (now (rules .entry)) (decision.publish qos (flag retain) (flag disconnect) (now (topic .entry)))) ⌝ }
 {
     publish_number(client_publish(
-        superuser,
+        flag(superuser),
         id,
         given_text(has_name, name),
         name,
         rules,
         qos,
-        retain,
-        disconnect,
+        flag(retain),
+        flag(disconnect),
         topic,
     ))
 }
 
-fn given_expiry(has: bool, seconds: u64, nanoseconds: u64) -> Expiry
-    ensures { λ r. ⌜ r ≡ clients.expiryOf has seconds nanoseconds ⌝ }
+fn given_expiry(has: u8, seconds: u64, nanoseconds: u64) -> Expiry
+    ensures { λ r. ⌜ r ≡ clients.expiryOf (flag has) seconds nanoseconds ⌝ }
 {
-    if has {
+    if flag(has) {
         return Expiry::At(seconds, nanoseconds);
     }
     Expiry::Never
@@ -136,13 +137,13 @@ fn expiry_number(answer: ExpiryAnswer) -> u64
 // Are the credentials expired now, at these seconds and nanoseconds?
 #[no_mangle]
 pub extern "C" fn acl_expired(
-    has_expiry: bool,
+    has_expiry: u8,
     expiry_seconds: u64,
     expiry_nanoseconds: u64,
     seconds: u64,
     nanoseconds: u64,
 ) -> u64
-    ensures { λ r. ⌜ r ≡ clients.expiryNumber (expiry.expiry (clients.expiryOf «has_expiry» «expiry_seconds» «expiry_nanoseconds») seconds nanoseconds) ⌝ }
+    ensures { λ r. ⌜ r ≡ clients.expiryNumber (expiry.expiry (clients.expiryOf (flag «has_expiry») «expiry_seconds» «expiry_nanoseconds») seconds nanoseconds) ⌝ }
 {
     expiry_number(expired(
         given_expiry(has_expiry, expiry_seconds, expiry_nanoseconds),

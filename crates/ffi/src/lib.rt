@@ -1,7 +1,8 @@
-// The library for C and Rust: what a host calls, under names that begin with `acl_`. Nothing of the repository calls it. A lent
-// text, and a store, crosses as its address, never null, and its length; `acl_open` and the events write the store, the questions only
-// read it. Answers on a store are the numbers of specs/Answers.antt.
+// The library for C and Rust: what a host calls, under names that begin with `acl_`. Of the repository only `vectors` calls it. A lent
+// text, and a store, crosses as its address and its length, a flag as a byte; `acl_open` and the events write the store, the questions only
+// read it. Answers on a store are the numbers of specs/Answers.antt, and `unpacking` takes them apart.
 pub mod clients;
+pub mod unpacking;
 
 use events::EventAnswer;
 use events::connecting::connected;
@@ -40,44 +41,61 @@ ghost use Rattle.questions.specs.Answers as said;
 ghost use Rattle.ffi.specs.Rules as rules;
 ghost use Rattle.ffi.specs.Answers as answers;
 
+// A flag: 0 is false, every other number true.
+fn flag(n: u8) -> bool
+    ensures { λ r. ⌜ r ≡ rules.flag n ⌝ }
+{
+    n != 0
+}
+
+// 1 yes, 0 no.
+fn yes(is: bool) -> u8
+    ensures { λ r. ⌜ r ≡ rules.yes is ⌝ }
+{
+    if is {
+        return 1;
+    }
+    0
+}
+
 // Is the text a valid filter?
 #[no_mangle]
-pub extern "C" fn acl_valid_filter(text: &[u8]) -> bool
-    ensures { λ r. ⌜ r ≡ spec.validFilter (now (text .entry)) ⌝ }
+pub extern "C" fn acl_valid_filter(text: &[u8]) -> u8
+    ensures { λ r. ⌜ r ≡ rules.yes (spec.validFilter (now (text .entry))) ⌝ }
 {
-    topic::valid_filter(text)
+    yes(topic::valid_filter(text))
 }
 
 // Tree match T: does the filter take the checked text?
 #[no_mangle]
-pub extern "C" fn acl_tree_match(filter: &[u8], text: &[u8]) -> bool
-    ensures { λ r. ⌜ r ≡ spec.treeMatch (now (filter .entry)) (now (text .entry)) ⌝ }
+pub extern "C" fn acl_tree_match(filter: &[u8], text: &[u8]) -> u8
+    ensures { λ r. ⌜ r ≡ rules.yes (spec.treeMatch (now (filter .entry)) (now (text .entry))) ⌝ }
 {
-    topic::tree_match(filter, text)
+    yes(topic::tree_match(filter, text))
 }
 
 // Plain match P: does the filter take the checked text?
 #[no_mangle]
-pub extern "C" fn acl_plain_match(filter: &[u8], text: &[u8]) -> bool
-    ensures { λ r. ⌜ r ≡ spec.plainMatch (now (filter .entry)) (now (text .entry)) ⌝ }
+pub extern "C" fn acl_plain_match(filter: &[u8], text: &[u8]) -> u8
+    ensures { λ r. ⌜ r ≡ rules.yes (spec.plainMatch (now (filter .entry)) (now (text .entry))) ⌝ }
 {
-    topic::plain_match(filter, text)
+    yes(topic::plain_match(filter, text))
 }
 
 // Is the line one of document 01's JSON documents?
 #[no_mangle]
-pub extern "C" fn acl_is_document(line: &[u8]) -> bool
-    ensures { λ r. ⌜ r ≡ isDocument (lineValue (now (line .entry))) ⌝ }
+pub extern "C" fn acl_is_document(line: &[u8]) -> u8
+    ensures { λ r. ⌜ r ≡ rules.yes (isDocument (lineValue (now (line .entry)))) ⌝ }
 {
-    json::values::is_document(line)
+    yes(json::values::is_document(line))
 }
 
 // And one whose decoded strings, member names included, have at most this many bytes?
 #[no_mangle]
-pub extern "C" fn acl_is_document_within(line: &[u8], most: usize) -> bool
-    ensures { λ r. ⌜ r ≡ documentWithin most (lineValue (now (line .entry))) ⌝ }
+pub extern "C" fn acl_is_document_within(line: &[u8], most: usize) -> u8
+    ensures { λ r. ⌜ r ≡ rules.yes (documentWithin most (lineValue (now (line .entry)))) ⌝ }
 {
-    json::values::is_document_within(line, most)
+    yes(json::values::is_document_within(line, most))
 }
 
 fn refusal_number(cause: Refusal) -> u8
@@ -109,19 +127,19 @@ pub extern "C" fn acl_rule_refusal(line: &[u8]) -> u8
 }
 
 // The whole text, where its flag is true.
-fn given_text(has: bool, text: &[u8]) -> Given
-    ensures { λ r. ⌜ given r (now (text .entry)) ≡ rules.where-true has (now (text .entry)) ⌝ }
+fn given_text(has: u8, text: &[u8]) -> Given
+    ensures { λ r. ⌜ given r (now (text .entry)) ≡ rules.where-true (rules.flag has) (now (text .entry)) ⌝ }
 {
-    if has {
+    if flag(has) {
         return Given::Length(text.len());
     }
     Given::Absent
 }
 
-fn given_protocol(has: bool, protocol: u8) -> Protocol
-    ensures { λ r. ⌜ r ≡ placedProtocol (rules.where-true has protocol) ⌝ }
+fn given_protocol(has: u8, protocol: u8) -> Protocol
+    ensures { λ r. ⌜ r ≡ placedProtocol (rules.where-true (rules.flag has) protocol) ⌝ }
 {
-    if has {
+    if flag(has) {
         return Protocol::Is(protocol);
     }
     Protocol::Any
@@ -147,16 +165,16 @@ fn identity_number(answer: Identity) -> u8
 pub extern "C" fn acl_identity(
     line: &[u8],
     id: &[u8],
-    has_name: bool,
+    has_name: u8,
     name: &[u8],
-    has_password: bool,
+    has_password: u8,
     password: &[u8],
-    has_address: bool,
+    has_address: u8,
     address: &[u8],
-    has_protocol: bool,
+    has_protocol: u8,
     protocol: u8,
 ) -> u8
-    ensures { λ r. ⌜ r ≡ rules.identityOf (now (line .entry)) (now (id .entry)) (rules.where-true «has_name» (now (name .entry))) (rules.where-true «has_password» (now (password .entry))) (rules.where-true «has_address» (now (address .entry))) (rules.where-true «has_protocol» protocol) ⌝ }
+    ensures { λ r. ⌜ r ≡ rules.identityOf (now (line .entry)) (now (id .entry)) (rules.where-true (rules.flag «has_name») (now (name .entry))) (rules.where-true (rules.flag «has_password») (now (password .entry))) (rules.where-true (rules.flag «has_address») (now (address .entry))) (rules.where-true (rules.flag «has_protocol») protocol) ⌝ }
 {
     let RuleRead::Rule(found) = read_rule(line) else {
         return 3;
@@ -217,11 +235,11 @@ pub extern "C" fn acl_connected(
     store: &mut [u8],
     session: u64,
     id: &[u8],
-    has_name: bool,
+    has_name: u8,
     name: &[u8],
 ) -> u8
-    ensures { λ r. ⌜ r ≡ answers.eventNumber (event.cause (event.connected session (now (id .entry)) (rules.where-true «has_name» (now (name .entry)))) (view (now (store .entry)))) ⌝ }
-    ensures { λ r. ⌜ now (store .exit) ≡ event.after (event.connected session (now (id .entry)) (rules.where-true «has_name» (now (name .entry)))) (now (store .entry)) ⌝ }
+    ensures { λ r. ⌜ r ≡ answers.eventNumber (event.cause (event.connected session (now (id .entry)) (rules.where-true (rules.flag «has_name») (now (name .entry)))) (view (now (store .entry)))) ⌝ }
+    ensures { λ r. ⌜ now (store .exit) ≡ event.after (event.connected session (now (id .entry)) (rules.where-true (rules.flag «has_name») (now (name .entry)))) (now (store .entry)) ⌝ }
 {
     event_number(connected(store, session, id, given_text(has_name, name), name))
 }
@@ -276,15 +294,15 @@ pub extern "C" fn acl_connect(
     store: &[u8],
     earlier: u64,
     id: &[u8],
-    has_name: bool,
+    has_name: u8,
     name: &[u8],
-    has_password: bool,
+    has_password: u8,
     password: &[u8],
-    has_address: bool,
+    has_address: u8,
     address: &[u8],
     protocol: u8,
 ) -> u32
-    ensures { λ r. ⌜ r ≡ answers.packed (ask (question.connect earlier (record { id = now (id .entry); name = rules.where-true «has_name» (now (name .entry)); password = rules.where-true «has_password» (now (password .entry)); address = rules.where-true «has_address» (now (address .entry)); protocol = some protocol })) (now (store .entry))) ⌝ }
+    ensures { λ r. ⌜ r ≡ answers.packed (ask (question.connect earlier (record { id = now (id .entry); name = rules.where-true (rules.flag «has_name») (now (name .entry)); password = rules.where-true (rules.flag «has_password») (now (password .entry)); address = rules.where-true (rules.flag «has_address») (now (address .entry)); protocol = some protocol })) (now (store .entry))) ⌝ }
 {
     connect_number(connect(
         store,
@@ -318,18 +336,18 @@ pub extern "C" fn acl_subscribe(
     store: &[u8],
     earlier: u64,
     id: &[u8],
-    has_name: bool,
+    has_name: u8,
     name: &[u8],
-    has_password: bool,
+    has_password: u8,
     password: &[u8],
-    has_address: bool,
+    has_address: u8,
     address: &[u8],
-    has_protocol: bool,
+    has_protocol: u8,
     protocol: u8,
     topic: &[u8],
     qos: u64,
 ) -> u32
-    ensures { λ r. ⌜ r ≡ answers.packed (ask (question.subscribe earlier (record { id = now (id .entry); name = rules.where-true «has_name» (now (name .entry)); password = rules.where-true «has_password» (now (password .entry)); address = rules.where-true «has_address» (now (address .entry)); protocol = rules.where-true «has_protocol» protocol }) (now (topic .entry)) qos) (now (store .entry))) ⌝ }
+    ensures { λ r. ⌜ r ≡ answers.packed (ask (question.subscribe earlier (record { id = now (id .entry); name = rules.where-true (rules.flag «has_name») (now (name .entry)); password = rules.where-true (rules.flag «has_password») (now (password .entry)); address = rules.where-true (rules.flag «has_address») (now (address .entry)); protocol = rules.where-true (rules.flag «has_protocol») protocol }) (now (topic .entry)) qos) (now (store .entry))) ⌝ }
 {
     subscribe_number(subscribe(
         store,
@@ -370,18 +388,18 @@ pub extern "C" fn acl_publish(
     store: &[u8],
     earlier: u64,
     id: &[u8],
-    has_name: bool,
+    has_name: u8,
     name: &[u8],
-    has_password: bool,
+    has_password: u8,
     password: &[u8],
-    has_address: bool,
+    has_address: u8,
     address: &[u8],
-    has_protocol: bool,
+    has_protocol: u8,
     protocol: u8,
     topic: &[u8],
-    disconnect: bool,
+    disconnect: u8,
 ) -> u32
-    ensures { λ r. ⌜ r ≡ answers.packed (ask (question.publish earlier (record { id = now (id .entry); name = rules.where-true «has_name» (now (name .entry)); password = rules.where-true «has_password» (now (password .entry)); address = rules.where-true «has_address» (now (address .entry)); protocol = rules.where-true «has_protocol» protocol }) (now (topic .entry)) disconnect) (now (store .entry))) ⌝ }
+    ensures { λ r. ⌜ r ≡ answers.packed (ask (question.publish earlier (record { id = now (id .entry); name = rules.where-true (rules.flag «has_name») (now (name .entry)); password = rules.where-true (rules.flag «has_password») (now (password .entry)); address = rules.where-true (rules.flag «has_address») (now (address .entry)); protocol = rules.where-true (rules.flag «has_protocol») protocol }) (now (topic .entry)) (rules.flag disconnect)) (now (store .entry))) ⌝ }
 {
     publish_number(publish(
         store,
@@ -395,6 +413,6 @@ pub extern "C" fn acl_publish(
         address,
         given_protocol(has_protocol, protocol),
         topic,
-        disconnect,
+        flag(disconnect),
     ))
 }

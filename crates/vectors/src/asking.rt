@@ -1,7 +1,8 @@
 // A recorded question on a store: its rules opened, the call, and what is answered as a word and a digit. `judging` reads a line by these.
 use crate::fields::digit;
 use crate::fields::field;
-use crate::fields::is_given;
+use crate::fields::flag;
+use crate::fields::given_flag;
 use crate::fields::lent;
 use text::Replaced;
 ghost use mathlib.Core.Path.{_≡_};
@@ -38,11 +39,11 @@ pub fn connect_answer(line: &[u8], store: &[u8]) -> u32
         store,
         digit(field(line, 4), 0) as u64,
         field(line, 5),
-        is_given(name),
+        given_flag(name),
         lent(name),
-        is_given(password),
+        given_flag(password),
         lent(password),
-        is_given(address),
+        given_flag(address),
         lent(address),
         digit(field(line, 9), 1),
     )
@@ -60,13 +61,13 @@ pub fn subscribe_answer(line: &[u8], store: &[u8]) -> u32
         store,
         digit(field(line, 4), 0) as u64,
         field(line, 5),
-        is_given(name),
+        given_flag(name),
         lent(name),
-        is_given(password),
+        given_flag(password),
         lent(password),
-        is_given(address),
+        given_flag(address),
         lent(address),
-        is_given(protocol),
+        given_flag(protocol),
         digit(protocol, 1),
         field(line, 10),
         digit(field(line, 11), 0) as u64,
@@ -85,16 +86,16 @@ pub fn publish_answer(line: &[u8], store: &[u8]) -> u32
         store,
         digit(field(line, 4), 0) as u64,
         field(line, 5),
-        is_given(name),
+        given_flag(name),
         lent(name),
-        is_given(password),
+        given_flag(password),
         lent(password),
-        is_given(address),
+        given_flag(address),
         lent(address),
-        is_given(protocol),
+        given_flag(protocol),
         digit(protocol, 1),
         field(line, 10),
-        digit(field(line, 11), 0) == 1,
+        flag(digit(field(line, 11), 0) == 1),
     )
 }
 

@@ -1,6 +1,7 @@
 // The per-client question of a recorded line: `C`, answer, superuser, publish, QoS, retain, disconnect, client id, name, topic, rule. A flag is `=`
 // for true; the rule is all that is left.
 use crate::fields::field;
+use crate::fields::given_flag;
 use crate::fields::is_given;
 use crate::fields::lent;
 use crate::fields::number;
@@ -13,9 +14,9 @@ fn subscribe_answer(line: &[u8]) -> u64
 {
     let name = field(line, 8);
     ffi::clients::acl_client_subscribe(
-        is_given(field(line, 2)),
+        given_flag(field(line, 2)),
         field(line, 7),
-        is_given(name),
+        given_flag(name),
         lent(name),
         rest(line, 10),
         number(field(line, 4)) as u64,
@@ -28,14 +29,14 @@ fn publish_answer(line: &[u8]) -> u64
 {
     let name = field(line, 8);
     ffi::clients::acl_client_publish(
-        is_given(field(line, 2)),
+        given_flag(field(line, 2)),
         field(line, 7),
-        is_given(name),
+        given_flag(name),
         lent(name),
         rest(line, 10),
         number(field(line, 4)) as u64,
-        is_given(field(line, 5)),
-        is_given(field(line, 6)),
+        given_flag(field(line, 5)),
+        given_flag(field(line, 6)),
         field(line, 9),
     )
 }

@@ -1,5 +1,6 @@
 // The fields of a recorded line, which have a TAB between them. `judging` reads a line by them.
 ghost use mathlib.Core.Path.{_≡_};
+ghost use Rattle.ffi.specs.Rules.{flag};
 ghost use Rattle.vectors.specs.Fields as spec;
 
 // What stands behind the first `n` TABs of the line; nothing where it has fewer.
@@ -46,6 +47,23 @@ pub fn is_given(text: &[u8]) -> bool
     ensures { λ r. ⌜ r ≡ spec.isGiven (now (text .entry)) ⌝ }
 {
     text.len() > 0 && text[0] == b'='
+}
+
+// A test as a flag that an exported function takes.
+pub fn flag(is: bool) -> u8
+    ensures { λ r. ⌜ flag r ≡ is ⌝ }
+{
+    if is {
+        return 1;
+    }
+    0
+}
+
+// The flag of this field's optional value.
+pub fn given_flag(text: &[u8]) -> u8
+    ensures { λ r. ⌜ flag r ≡ spec.isGiven (now (text .entry)) ⌝ }
+{
+    flag(is_given(text))
 }
 
 // The value behind that byte.

@@ -9,7 +9,7 @@ use crate::asking::subscribe_answer;
 use crate::clients::client_answer;
 use crate::clients::is_packed;
 use crate::fields::field;
-use crate::fields::is_given;
+use crate::fields::given_flag;
 use crate::fields::lent;
 use crate::fields::number;
 use crate::fields::rest;
@@ -161,13 +161,13 @@ fn identity_line(line: &[u8]) -> Judged
     let answer = ffi::acl_identity(
         rest(line, 7),
         field(line, 2),
-        is_given(name),
+        given_flag(name),
         lent(name),
-        is_given(password),
+        given_flag(password),
         lent(password),
-        is_given(address),
+        given_flag(address),
         lent(address),
-        is_given(protocol),
+        given_flag(protocol),
         number(protocol),
     );
     verdict(Kind::Identity, is_digit(answer as u32, field(line, 1)))

@@ -6,10 +6,10 @@ use crate::Lent;
 mod exported {
     extern "C" {
         pub fn acl_client_subscribe(
-            superuser: bool,
+            superuser: u8,
             id: *const u8,
             id_len: usize,
-            has_name: bool,
+            has_name: u8,
             name: *const u8,
             name_len: usize,
             rules: *const u8,
@@ -19,22 +19,22 @@ mod exported {
             topic_len: usize,
         ) -> u64;
         pub fn acl_client_publish(
-            superuser: bool,
+            superuser: u8,
             id: *const u8,
             id_len: usize,
-            has_name: bool,
+            has_name: u8,
             name: *const u8,
             name_len: usize,
             rules: *const u8,
             rules_len: usize,
             qos: u64,
-            retain: bool,
-            disconnect: bool,
+            retain: u8,
+            disconnect: u8,
             topic: *const u8,
             topic_len: usize,
         ) -> u64;
         pub fn acl_expired(
-            has_expiry: bool,
+            has_expiry: u8,
             expiry_seconds: u64,
             expiry_nanoseconds: u64,
             seconds: u64,
@@ -56,10 +56,10 @@ pub fn subscribe(c: Owner, qos: u64, topic: &[u8]) -> u64 {
     // SAFETY: the function only reads, and only the slices.
     unsafe {
         exported::acl_client_subscribe(
-            c.superuser,
+            c.superuser.into(),
             c.id.as_ptr(),
             c.id.len(),
-            c.name.0,
+            c.name.0.into(),
             c.name.1.as_ptr(),
             c.name.1.len(),
             c.rules.as_ptr(),
@@ -75,17 +75,17 @@ pub fn publish(c: Owner, qos: u64, retain: bool, disconnect: bool, topic: &[u8])
     // SAFETY: as above.
     unsafe {
         exported::acl_client_publish(
-            c.superuser,
+            c.superuser.into(),
             c.id.as_ptr(),
             c.id.len(),
-            c.name.0,
+            c.name.0.into(),
             c.name.1.as_ptr(),
             c.name.1.len(),
             c.rules.as_ptr(),
             c.rules.len(),
             qos,
-            retain,
-            disconnect,
+            retain.into(),
+            disconnect.into(),
             topic.as_ptr(),
             topic.len(),
         )
@@ -95,5 +95,5 @@ pub fn publish(c: Owner, qos: u64, retain: bool, disconnect: bool, topic: &[u8])
 /// Seconds and nanoseconds of the expiry, if there is one, and of now.
 pub fn expired(expiry: Lent<(u64, u64)>, now: (u64, u64)) -> u64 {
     // SAFETY: numbers alone.
-    unsafe { exported::acl_expired(expiry.0, expiry.1 .0, expiry.1 .1, now.0, now.1) }
+    unsafe { exported::acl_expired(expiry.0.into(), expiry.1 .0, expiry.1 .1, now.0, now.1) }
 }

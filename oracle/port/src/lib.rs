@@ -1,37 +1,31 @@
 //! The port's exported functions, safe on slices. A lent text crosses as its
-//! place, never null, and its length.
+//! place and its length, a flag as 0 or 1.
 
 pub mod clients;
 
 mod exported {
     extern "C" {
-        pub fn acl_valid_filter(s: *const u8, s_len: usize) -> bool;
-        pub fn acl_tree_match(filter: *const u8, filter_len: usize, text: *const u8, text_len: usize)
-            -> bool;
-        pub fn acl_plain_match(
-            filter: *const u8,
-            filter_len: usize,
-            text: *const u8,
-            text_len: usize,
-        ) -> bool;
-        pub fn acl_is_document(line: *const u8, line_len: usize) -> bool;
-        pub fn acl_is_document_within(line: *const u8, line_len: usize, most: usize) -> bool;
+        pub fn acl_valid_filter(s: *const u8, s_len: usize) -> u8;
+        pub fn acl_tree_match(filter: *const u8, filter_len: usize, text: *const u8, text_len: usize) -> u8;
+        pub fn acl_plain_match(filter: *const u8, filter_len: usize, text: *const u8, text_len: usize) -> u8;
+        pub fn acl_is_document(line: *const u8, line_len: usize) -> u8;
+        pub fn acl_is_document_within(line: *const u8, line_len: usize, most: usize) -> u8;
         pub fn acl_rule_refusal(line: *const u8, line_len: usize) -> u8;
         pub fn acl_identity(
             line: *const u8,
             line_len: usize,
             id: *const u8,
             id_len: usize,
-            has_name: bool,
+            has_name: u8,
             name: *const u8,
             name_len: usize,
-            has_password: bool,
+            has_password: u8,
             password: *const u8,
             password_len: usize,
-            has_address: bool,
+            has_address: u8,
             address: *const u8,
             address_len: usize,
-            has_protocol: bool,
+            has_protocol: u8,
             protocol: u8,
         ) -> u8;
         pub fn acl_open(
@@ -50,7 +44,7 @@ mod exported {
             session: u64,
             id: *const u8,
             id_len: usize,
-            has_name: bool,
+            has_name: u8,
             name: *const u8,
             name_len: usize,
         ) -> u8;
@@ -68,13 +62,13 @@ mod exported {
             earlier: u64,
             id: *const u8,
             id_len: usize,
-            has_name: bool,
+            has_name: u8,
             name: *const u8,
             name_len: usize,
-            has_password: bool,
+            has_password: u8,
             password: *const u8,
             password_len: usize,
-            has_address: bool,
+            has_address: u8,
             address: *const u8,
             address_len: usize,
             protocol: u8,
@@ -85,16 +79,16 @@ mod exported {
             earlier: u64,
             id: *const u8,
             id_len: usize,
-            has_name: bool,
+            has_name: u8,
             name: *const u8,
             name_len: usize,
-            has_password: bool,
+            has_password: u8,
             password: *const u8,
             password_len: usize,
-            has_address: bool,
+            has_address: u8,
             address: *const u8,
             address_len: usize,
-            has_protocol: bool,
+            has_protocol: u8,
             protocol: u8,
             topic: *const u8,
             topic_len: usize,
@@ -106,47 +100,47 @@ mod exported {
             earlier: u64,
             id: *const u8,
             id_len: usize,
-            has_name: bool,
+            has_name: u8,
             name: *const u8,
             name_len: usize,
-            has_password: bool,
+            has_password: u8,
             password: *const u8,
             password_len: usize,
-            has_address: bool,
+            has_address: u8,
             address: *const u8,
             address_len: usize,
-            has_protocol: bool,
+            has_protocol: u8,
             protocol: u8,
             topic: *const u8,
             topic_len: usize,
-            disconnect: bool,
+            disconnect: u8,
         ) -> u32;
     }
 }
 
 pub fn valid_filter(s: &[u8]) -> bool {
     // SAFETY: the function only reads, and only the slice.
-    unsafe { exported::acl_valid_filter(s.as_ptr(), s.len()) }
+    unsafe { exported::acl_valid_filter(s.as_ptr(), s.len()) != 0 }
 }
 
 pub fn tree_match(filter: &[u8], text: &[u8]) -> bool {
     // SAFETY: as above, both slices.
-    unsafe { exported::acl_tree_match(filter.as_ptr(), filter.len(), text.as_ptr(), text.len()) }
+    unsafe { exported::acl_tree_match(filter.as_ptr(), filter.len(), text.as_ptr(), text.len()) != 0 }
 }
 
 pub fn plain_match(filter: &[u8], text: &[u8]) -> bool {
     // SAFETY: as above, both slices.
-    unsafe { exported::acl_plain_match(filter.as_ptr(), filter.len(), text.as_ptr(), text.len()) }
+    unsafe { exported::acl_plain_match(filter.as_ptr(), filter.len(), text.as_ptr(), text.len()) != 0 }
 }
 
 pub fn is_document(line: &[u8]) -> bool {
     // SAFETY: as above, the slice.
-    unsafe { exported::acl_is_document(line.as_ptr(), line.len()) }
+    unsafe { exported::acl_is_document(line.as_ptr(), line.len()) != 0 }
 }
 
 pub fn is_document_within(line: &[u8], most: usize) -> bool {
     // SAFETY: as above, the slice.
-    unsafe { exported::acl_is_document_within(line.as_ptr(), line.len(), most) }
+    unsafe { exported::acl_is_document_within(line.as_ptr(), line.len(), most) != 0 }
 }
 
 /// 0 a rule, 1 too long, 5 not the JSON, 6 not a rule.
@@ -174,16 +168,16 @@ pub fn identity(
             line.len(),
             id.as_ptr(),
             id.len(),
-            name.0,
+            name.0.into(),
             name.1.as_ptr(),
             name.1.len(),
-            password.0,
+            password.0.into(),
             password.1.as_ptr(),
             password.1.len(),
-            address.0,
+            address.0.into(),
             address.1.as_ptr(),
             address.1.len(),
-            protocol.0,
+            protocol.0.into(),
             protocol.1,
         )
     }
@@ -233,7 +227,7 @@ pub fn connected(store: &mut [u8], session: u64, id: &[u8], name: Lent<&[u8]>) -
             session,
             id.as_ptr(),
             id.len(),
-            name.0,
+            name.0.into(),
             name.1.as_ptr(),
             name.1.len(),
         )
@@ -272,13 +266,13 @@ pub fn connect(store: &[u8], c: Client) -> u32 {
             c.earlier,
             c.id.as_ptr(),
             c.id.len(),
-            c.name.0,
+            c.name.0.into(),
             c.name.1.as_ptr(),
             c.name.1.len(),
-            c.password.0,
+            c.password.0.into(),
             c.password.1.as_ptr(),
             c.password.1.len(),
-            c.address.0,
+            c.address.0.into(),
             c.address.1.as_ptr(),
             c.address.1.len(),
             c.protocol.1,
@@ -295,16 +289,16 @@ pub fn subscribe(store: &[u8], c: Client, topic: &[u8], qos: u64) -> u32 {
             c.earlier,
             c.id.as_ptr(),
             c.id.len(),
-            c.name.0,
+            c.name.0.into(),
             c.name.1.as_ptr(),
             c.name.1.len(),
-            c.password.0,
+            c.password.0.into(),
             c.password.1.as_ptr(),
             c.password.1.len(),
-            c.address.0,
+            c.address.0.into(),
             c.address.1.as_ptr(),
             c.address.1.len(),
-            c.protocol.0,
+            c.protocol.0.into(),
             c.protocol.1,
             topic.as_ptr(),
             topic.len(),
@@ -322,20 +316,20 @@ pub fn publish(store: &[u8], c: Client, topic: &[u8], disconnect: bool) -> u32 {
             c.earlier,
             c.id.as_ptr(),
             c.id.len(),
-            c.name.0,
+            c.name.0.into(),
             c.name.1.as_ptr(),
             c.name.1.len(),
-            c.password.0,
+            c.password.0.into(),
             c.password.1.as_ptr(),
             c.password.1.len(),
-            c.address.0,
+            c.address.0.into(),
             c.address.1.as_ptr(),
             c.address.1.len(),
-            c.protocol.0,
+            c.protocol.0.into(),
             c.protocol.1,
             topic.as_ptr(),
             topic.len(),
-            disconnect,
+            disconnect.into(),
         )
     }
 }

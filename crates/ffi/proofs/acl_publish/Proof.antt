@@ -5,7 +5,7 @@ use Rattle.questions.specs.Question.{publish}
 use Rattle.questions.specs.Decision.{ask}
 use Rattle.questions.specs.Parts.{protocolOf}
 use Rattle.ffi.specs.Answers.{packed}
-use Rattle.ffi.specs.Rules.{where-true}
+use Rattle.ffi.specs.Rules.{where-true, flag}
 use Rattle.ffi.proofs.AnswerLaws.{answer-small, protocol-placed}
 use borrow.Author.Needs.{needs}
 use Rattle.ffi.proofs.acl_publish.Statement.{statement}
@@ -23,6 +23,9 @@ given-text-requires-3 c κs = search needs
 given-protocol-requires : tie.Need-given-protocol-requires
 given-protocol-requires c κs = search needs
 
+flag-requires : tie.Need-flag-requires
+flag-requires c κs = search needs
+
 publish-requires : tie.Need-publish-requires
 publish-requires c κs = search needs
 
@@ -31,15 +34,15 @@ publish-number-requires c κs = rw (c .publish .ensures) (answer-small _ _)
 
 returns : tie.Need-returns
 returns c =
-    let a = c .before .before .before .before .before .before .before .before .before .before .before .before .args in
-    let name = c .before .before .before .before .before .given-text .ensures in
-    let password = c .before .before .before .before .given-text2 .ensures in
-    let address = c .before .before .before .given-text3 .ensures in
-    let protocol = ap protocolOf (c .before .before .given-protocol .ensures) ∙ protocol-placed (where-true (a .has-protocol) (a .protocol)) in
+    let a = c .before .before .before .before .before .before .before .before .before .before .before .before .before .args in
+    let name = c .before .before .before .before .before .before .given-text .ensures in
+    let password = c .before .before .before .before .before .given-text2 .ensures in
+    let address = c .before .before .before .before .given-text3 .ensures in
+    let protocol = ap protocolOf (c .before .before .before .given-protocol .ensures) ∙ protocol-placed (where-true (flag (a .has-protocol)) (a .protocol)) in
     c .publish-number .ensures
     ∙ ap packed
     (c .before .publish .ensures
-    ∙ (λ i. ask (publish (a .earlier) (record { id = now (a .id); name = name i; password = password i; address = address i; protocol = protocol i }) (now (a .topic)) (a .disconnect)) (now (a .store))))
+    ∙ (λ i. ask (publish (a .earlier) (record { id = now (a .id); name = name i; password = password i; address = address i; protocol = protocol i }) (now (a .topic)) (c .before .before .flag .ensures i)) (now (a .store))))
 
 pub acl-publish-spec : {M : Type 1} → statement M
 acl-publish-spec =
@@ -49,6 +52,7 @@ acl-publish-spec =
     given-text-requires-2
     given-text-requires-3
     given-protocol-requires
+    flag-requires
     publish-requires
     publish-number-requires
     returns)

@@ -5,7 +5,7 @@ use Rattle.questions.specs.Question.{subscribe}
 use Rattle.questions.specs.Decision.{ask}
 use Rattle.questions.specs.Parts.{protocolOf}
 use Rattle.ffi.specs.Answers.{packed}
-use Rattle.ffi.specs.Rules.{where-true}
+use Rattle.ffi.specs.Rules.{where-true, flag}
 use Rattle.ffi.proofs.AnswerLaws.{answer-small, protocol-placed}
 use borrow.Author.Needs.{needs}
 use Rattle.ffi.proofs.acl_subscribe.Statement.{statement}
@@ -35,7 +35,7 @@ returns c =
     let name = c .before .before .before .before .before .given-text .ensures in
     let password = c .before .before .before .before .given-text2 .ensures in
     let address = c .before .before .before .given-text3 .ensures in
-    let protocol = ap protocolOf (c .before .before .given-protocol .ensures) ∙ protocol-placed (where-true (a .has-protocol) (a .protocol)) in
+    let protocol = ap protocolOf (c .before .before .given-protocol .ensures) ∙ protocol-placed (where-true (flag (a .has-protocol)) (a .protocol)) in
     c .subscribe-number .ensures
     ∙ ap packed
     (c .before .subscribe .ensures

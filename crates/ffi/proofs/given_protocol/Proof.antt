@@ -1,16 +1,20 @@
 -- The flag decides. Assumes nothing.
 use Rattle.rule.specs.Places.{placedProtocol}
 use Rattle.ffi.specs.Rules.{where-true}
+use borrow.Author.Needs.{needs}
 use Rattle.ffi.proofs.given_protocol.Statement.{statement}
 use Rattle.ffi.proofs.given_protocol.Tie as tie
 
+flag-requires : tie.Need-flag-requires
+flag-requires c κs = search needs
+
 returns : tie.Need-returns
 unfolding placedProtocol where-true
-returns c = rw (c .if1 .taken)
+returns c = rw (← c .before .flag .ensures, c .if1 .taken)
 
 returns-2 : tie.Need-returns-2
 unfolding placedProtocol where-true
-returns-2 c = rw (c .if1 .left)
+returns-2 c = rw (← c .before .flag .ensures, c .if1 .left)
 
 pub given-protocol-spec : {M : Type 1} → statement M
-given-protocol-spec = tie.close (tie.spec returns returns-2)
+given-protocol-spec = tie.close (tie.spec flag-requires returns returns-2)

@@ -1,4 +1,4 @@
--- The name that is given is that of the flag; every answer is small. Assumes nothing.
+-- The flags are those that are handed over, and the name that is given is that of its flag; every answer is small. Assumes nothing.
 use mathlib.Core.Path.{ap, _∙_}
 use denote.Ref.{now}
 use Rattle.authinfo.specs.Decision.{ask, publish}
@@ -8,8 +8,17 @@ use borrow.Author.Needs.{needs}
 use Rattle.ffi.proofs.clients.acl_client_publish.Statement.{statement}
 use Rattle.ffi.proofs.clients.acl_client_publish.Tie as tie
 
+flag-requires : tie.Need-flag-requires
+flag-requires c κs = search needs
+
 given-text-requires : tie.Need-given-text-requires
 given-text-requires c κs = search needs
+
+flag-requires-2 : tie.Need-flag-requires-2
+flag-requires-2 c κs = search needs
+
+flag-requires-3 : tie.Need-flag-requires-3
+flag-requires-3 c κs = search needs
 
 client-publish-requires : tie.Need-client-publish-requires
 client-publish-requires c κs = search needs
@@ -19,14 +28,16 @@ publish-number-requires c κs = rw (c .client-publish .ensures) (client-small _ 
 
 returns : tie.Need-returns
 returns c =
-    let a = c .before .before .before .before .before .before .before .args in
-    let name = c .before .before .given-text .ensures in
+    let f = c .before .before in
+    let a = f .before .before .before .before .before .before .before .before .args in
+    let superuser = f .before .before .before .flag .ensures in
+    let name = f .before .before .given-text .ensures in
     c .publish-number .ensures
     ∙ ap packed
     (c .before .client-publish .ensures
-    ∙ (λ i. ask (record { superuser = a .superuser; id = now (a .id); name = name i }) (now (a .rules)) (publish (a .qos) (a .retain) (a .disconnect) (now (a .topic)))))
+    ∙ (λ i. ask (record { superuser = superuser i; id = now (a .id); name = name i }) (now (a .rules)) (publish (a .qos) (f .before .flag2 .ensures i) (f .flag3 .ensures i) (now (a .topic)))))
 
 pub acl-client-publish-spec : {M : Type 1} → statement M
 acl-client-publish-spec =
     tie.close
-    (tie.spec given-text-requires client-publish-requires publish-number-requires returns)
+    (tie.spec flag-requires given-text-requires flag-requires-2 flag-requires-3 client-publish-requires publish-number-requires returns)

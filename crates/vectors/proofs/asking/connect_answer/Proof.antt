@@ -25,20 +25,20 @@ cast-acl-connect c = search needs
 field-requires-5 : tie.Need-field-requires-5
 field-requires-5 c κs = search needs
 
-is-given-requires : tie.Need-is-given-requires
-is-given-requires c κs = search needs
+given-flag-requires : tie.Need-given-flag-requires
+given-flag-requires c κs = search needs
 
 lent-requires : tie.Need-lent-requires
 lent-requires c κs = search needs
 
-is-given-requires-2 : tie.Need-is-given-requires-2
-is-given-requires-2 c κs = search needs
+given-flag-requires-2 : tie.Need-given-flag-requires-2
+given-flag-requires-2 c κs = search needs
 
 lent-requires-2 : tie.Need-lent-requires-2
 lent-requires-2 c κs = search needs
 
-is-given-requires-3 : tie.Need-is-given-requires-3
-is-given-requires-3 c κs = search needs
+given-flag-requires-3 : tie.Need-given-flag-requires-3
+given-flag-requires-3 c κs = search needs
 
 lent-requires-3 : tie.Need-lent-requires-3
 lent-requires-3 c κs = search needs
@@ -57,8 +57,8 @@ unfolding textIn clientOf connectOf
 returns c =
     let r = c .before .before .before .before .before in
     let s = r .before .before .before .before .before in
-    rw (c .acl-connect .ensures, c .before .digit2 .ensures, c .before .before .field6 .ensures, c .before .before .before .lent3 .ensures, c .before .before .before .before .is-given3 .ensures)
-    (rw (r .lent2 .ensures, r .before .is-given2 .ensures, r .before .before .lent .ensures, r .before .before .before .is-given .ensures, r .before .before .before .before .field5 .ensures)
+    rw (c .acl-connect .ensures, c .before .digit2 .ensures, c .before .before .field6 .ensures, c .before .before .before .lent3 .ensures, c .before .before .before .before .given-flag3 .ensures)
+    (rw (r .lent2 .ensures, r .before .given-flag2 .ensures, r .before .before .lent .ensures, r .before .before .before .given-flag .ensures, r .before .before .before .before .field5 .ensures)
     (rw (s .digit .ensures, s .before .field4 .ensures, s .before .before .field3 .ensures, s .before .before .before .field2 .ensures, s .before .before .before .before .field .ensures)))
 
 pub connect-answer-spec : {M : Type 1} → statement M
@@ -72,11 +72,11 @@ connect-answer-spec =
     digit-requires
     cast-acl-connect
     field-requires-5
-    is-given-requires
+    given-flag-requires
     lent-requires
-    is-given-requires-2
+    given-flag-requires-2
     lent-requires-2
-    is-given-requires-3
+    given-flag-requires-3
     lent-requires-3
     field-requires-6
     digit-requires-2

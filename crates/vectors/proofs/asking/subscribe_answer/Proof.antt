@@ -28,26 +28,26 @@ cast-acl-subscribe c = search needs
 field-requires-6 : tie.Need-field-requires-6
 field-requires-6 c κs = search needs
 
-is-given-requires : tie.Need-is-given-requires
-is-given-requires c κs = search needs
+given-flag-requires : tie.Need-given-flag-requires
+given-flag-requires c κs = search needs
 
 lent-requires : tie.Need-lent-requires
 lent-requires c κs = search needs
 
-is-given-requires-2 : tie.Need-is-given-requires-2
-is-given-requires-2 c κs = search needs
+given-flag-requires-2 : tie.Need-given-flag-requires-2
+given-flag-requires-2 c κs = search needs
 
 lent-requires-2 : tie.Need-lent-requires-2
 lent-requires-2 c κs = search needs
 
-is-given-requires-3 : tie.Need-is-given-requires-3
-is-given-requires-3 c κs = search needs
+given-flag-requires-3 : tie.Need-given-flag-requires-3
+given-flag-requires-3 c κs = search needs
 
 lent-requires-3 : tie.Need-lent-requires-3
 lent-requires-3 c κs = search needs
 
-is-given-requires-4 : tie.Need-is-given-requires-4
-is-given-requires-4 c κs = search needs
+given-flag-requires-4 : tie.Need-given-flag-requires-4
+given-flag-requires-4 c κs = search needs
 
 digit-requires-2 : tie.Need-digit-requires-2
 digit-requires-2 c κs = search needs
@@ -74,8 +74,8 @@ returns c =
     let s = r .before .before .before .before .before in
     let p = s .before .before .before .before .before in
     rw (c .acl-subscribe .ensures, c .before .digit3 .ensures, c .before .before .field8 .ensures, c .before .before .before .field7 .ensures, c .before .before .before .before .digit2 .ensures)
-    (rw (r .is-given4 .ensures, r .before .lent3 .ensures, r .before .before .is-given3 .ensures, r .before .before .before .lent2 .ensures, r .before .before .before .before .is-given2 .ensures)
-    (rw (s .lent .ensures, s .before .is-given .ensures, s .before .before .field6 .ensures, s .before .before .before .digit .ensures, s .before .before .before .before .field5 .ensures)
+    (rw (r .given-flag4 .ensures, r .before .lent3 .ensures, r .before .before .given-flag3 .ensures, r .before .before .before .lent2 .ensures, r .before .before .before .before .given-flag2 .ensures)
+    (rw (s .lent .ensures, s .before .given-flag .ensures, s .before .before .field6 .ensures, s .before .before .before .digit .ensures, s .before .before .before .before .field5 .ensures)
     (rw (p .field4 .ensures, p .before .field3 .ensures, p .before .before .field2 .ensures, p .before .before .before .field .ensures))))
 
 pub subscribe-answer-spec : {M : Type 1} → statement M
@@ -90,13 +90,13 @@ subscribe-answer-spec =
     digit-requires
     cast-acl-subscribe
     field-requires-6
-    is-given-requires
+    given-flag-requires
     lent-requires
-    is-given-requires-2
+    given-flag-requires-2
     lent-requires-2
-    is-given-requires-3
+    given-flag-requires-3
     lent-requires-3
-    is-given-requires-4
+    given-flag-requires-4
     digit-requires-2
     field-requires-7
     field-requires-8

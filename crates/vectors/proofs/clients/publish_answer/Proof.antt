@@ -10,14 +10,14 @@ field-requires c κs = search needs
 field-requires-2 : tie.Need-field-requires-2
 field-requires-2 c κs = search needs
 
-is-given-requires : tie.Need-is-given-requires
-is-given-requires c κs = search needs
+given-flag-requires : tie.Need-given-flag-requires
+given-flag-requires c κs = search needs
 
 field-requires-3 : tie.Need-field-requires-3
 field-requires-3 c κs = search needs
 
-is-given-requires-2 : tie.Need-is-given-requires-2
-is-given-requires-2 c κs = search needs
+given-flag-requires-2 : tie.Need-given-flag-requires-2
+given-flag-requires-2 c κs = search needs
 
 lent-requires : tie.Need-lent-requires
 lent-requires c κs = search needs
@@ -37,14 +37,14 @@ cast-acl-client-publish c = search needs
 field-requires-5 : tie.Need-field-requires-5
 field-requires-5 c κs = search needs
 
-is-given-requires-3 : tie.Need-is-given-requires-3
-is-given-requires-3 c κs = search needs
+given-flag-requires-3 : tie.Need-given-flag-requires-3
+given-flag-requires-3 c κs = search needs
 
 field-requires-6 : tie.Need-field-requires-6
 field-requires-6 c κs = search needs
 
-is-given-requires-4 : tie.Need-is-given-requires-4
-is-given-requires-4 c κs = search needs
+given-flag-requires-4 : tie.Need-given-flag-requires-4
+given-flag-requires-4 c κs = search needs
 
 field-requires-7 : tie.Need-field-requires-7
 field-requires-7 c κs = search needs
@@ -55,10 +55,10 @@ acl-client-publish-requires c κs = search needs
 returns : tie.Need-returns
 unfolding publishAnswer clientIn
 returns c =
-    rw (c .acl-client-publish .ensures, c .before .field7 .ensures, c .before .before .is-given4 .ensures, c .before .before .before .field6 .ensures)
-    (rw (c .before .before .before .before .is-given3 .ensures, c .before .before .before .before .before .field5 .ensures, c .before .before .before .before .before .before .number .ensures, c .before .before .before .before .before .before .before .field4 .ensures)
-    (rw (c .before .before .before .before .before .before .before .before .rest .ensures, c .before .before .before .before .before .before .before .before .before .lent .ensures, c .before .before .before .before .before .before .before .before .before .before .is-given2 .ensures, c .before .before .before .before .before .before .before .before .before .before .before .field3 .ensures)
-    (rw (c .before .before .before .before .before .before .before .before .before .before .before .before .is-given .ensures, c .before .before .before .before .before .before .before .before .before .before .before .before .before .field2 .ensures, c .before .before .before .before .before .before .before .before .before .before .before .before .before .before .field .ensures))))
+    rw (c .acl-client-publish .ensures, c .before .field7 .ensures, c .before .before .given-flag4 .ensures, c .before .before .before .field6 .ensures)
+    (rw (c .before .before .before .before .given-flag3 .ensures, c .before .before .before .before .before .field5 .ensures, c .before .before .before .before .before .before .number .ensures, c .before .before .before .before .before .before .before .field4 .ensures)
+    (rw (c .before .before .before .before .before .before .before .before .rest .ensures, c .before .before .before .before .before .before .before .before .before .lent .ensures, c .before .before .before .before .before .before .before .before .before .before .given-flag2 .ensures, c .before .before .before .before .before .before .before .before .before .before .before .field3 .ensures)
+    (rw (c .before .before .before .before .before .before .before .before .before .before .before .before .given-flag .ensures, c .before .before .before .before .before .before .before .before .before .before .before .before .before .field2 .ensures, c .before .before .before .before .before .before .before .before .before .before .before .before .before .before .field .ensures))))
 
 pub publish-answer-spec : {M : Type 1} → statement M
 publish-answer-spec =
@@ -66,18 +66,18 @@ publish-answer-spec =
     (tie.spec
     field-requires
     field-requires-2
-    is-given-requires
+    given-flag-requires
     field-requires-3
-    is-given-requires-2
+    given-flag-requires-2
     lent-requires
     rest-requires
     field-requires-4
     number-requires
     cast-acl-client-publish
     field-requires-5
-    is-given-requires-3
+    given-flag-requires-3
     field-requires-6
-    is-given-requires-4
+    given-flag-requires-4
     field-requires-7
     acl-client-publish-requires
     returns)

@@ -10,14 +10,14 @@ field-requires c κs = search needs
 field-requires-2 : tie.Need-field-requires-2
 field-requires-2 c κs = search needs
 
-is-given-requires : tie.Need-is-given-requires
-is-given-requires c κs = search needs
+given-flag-requires : tie.Need-given-flag-requires
+given-flag-requires c κs = search needs
 
 field-requires-3 : tie.Need-field-requires-3
 field-requires-3 c κs = search needs
 
-is-given-requires-2 : tie.Need-is-given-requires-2
-is-given-requires-2 c κs = search needs
+given-flag-requires-2 : tie.Need-given-flag-requires-2
+given-flag-requires-2 c κs = search needs
 
 lent-requires : tie.Need-lent-requires
 lent-requires c κs = search needs
@@ -44,8 +44,8 @@ returns : tie.Need-returns
 unfolding subscribeAnswer clientIn
 returns c =
     rw (c .acl-client-subscribe .ensures, c .before .field5 .ensures, c .before .before .number .ensures, c .before .before .before .field4 .ensures)
-    (rw (c .before .before .before .before .rest .ensures, c .before .before .before .before .before .lent .ensures, c .before .before .before .before .before .before .is-given2 .ensures, c .before .before .before .before .before .before .before .field3 .ensures)
-    (rw (c .before .before .before .before .before .before .before .before .is-given .ensures, c .before .before .before .before .before .before .before .before .before .field2 .ensures, c .before .before .before .before .before .before .before .before .before .before .field .ensures)))
+    (rw (c .before .before .before .before .rest .ensures, c .before .before .before .before .before .lent .ensures, c .before .before .before .before .before .before .given-flag2 .ensures, c .before .before .before .before .before .before .before .field3 .ensures)
+    (rw (c .before .before .before .before .before .before .before .before .given-flag .ensures, c .before .before .before .before .before .before .before .before .before .field2 .ensures, c .before .before .before .before .before .before .before .before .before .before .field .ensures)))
 
 pub subscribe-answer-spec : {M : Type 1} → statement M
 subscribe-answer-spec =
@@ -53,9 +53,9 @@ subscribe-answer-spec =
     (tie.spec
     field-requires
     field-requires-2
-    is-given-requires
+    given-flag-requires
     field-requires-3
-    is-given-requires-2
+    given-flag-requires-2
     lent-requires
     rest-requires
     field-requires-4

@@ -23,26 +23,26 @@ rest-requires c κs = search needs
 field-requires-5 : tie.Need-field-requires-5
 field-requires-5 c κs = search needs
 
-is-given-requires : tie.Need-is-given-requires
-is-given-requires c κs = search needs
+given-flag-requires : tie.Need-given-flag-requires
+given-flag-requires c κs = search needs
 
 lent-requires : tie.Need-lent-requires
 lent-requires c κs = search needs
 
-is-given-requires-2 : tie.Need-is-given-requires-2
-is-given-requires-2 c κs = search needs
+given-flag-requires-2 : tie.Need-given-flag-requires-2
+given-flag-requires-2 c κs = search needs
 
 lent-requires-2 : tie.Need-lent-requires-2
 lent-requires-2 c κs = search needs
 
-is-given-requires-3 : tie.Need-is-given-requires-3
-is-given-requires-3 c κs = search needs
+given-flag-requires-3 : tie.Need-given-flag-requires-3
+given-flag-requires-3 c κs = search needs
 
 lent-requires-3 : tie.Need-lent-requires-3
 lent-requires-3 c κs = search needs
 
-is-given-requires-4 : tie.Need-is-given-requires-4
-is-given-requires-4 c κs = search needs
+given-flag-requires-4 : tie.Need-given-flag-requires-4
+given-flag-requires-4 c κs = search needs
 
 number-requires : tie.Need-number-requires
 number-requires c κs = search needs
@@ -72,8 +72,8 @@ returns c =
     let r = n .before .before in
     let f = r .before .before in
     rw (c .verdict .ensures, c .before .is-digit .ensures, c .before .before .field6 .ensures, i .acl-identity .ensures)
-    (rw (i .before .number .ensures, i .before .before .is-given4 .ensures, a .lent3 .ensures, a .before .is-given3 .ensures)
-    (rw (p .lent2 .ensures, p .before .is-given2 .ensures, n .lent .ensures, n .before .is-given .ensures)
+    (rw (i .before .number .ensures, i .before .before .given-flag4 .ensures, a .lent3 .ensures, a .before .given-flag3 .ensures)
+    (rw (p .lent2 .ensures, p .before .given-flag2 .ensures, n .lent .ensures, n .before .given-flag .ensures)
     (rw (r .field5 .ensures, r .before .rest .ensures, f .field4 .ensures, f .before .field3 .ensures, f .before .before .field2 .ensures, f .before .before .before .field .ensures))))
 
 pub identity-line-spec : {M : Type 1} → statement M
@@ -86,13 +86,13 @@ identity-line-spec =
     field-requires-4
     rest-requires
     field-requires-5
-    is-given-requires
+    given-flag-requires
     lent-requires
-    is-given-requires-2
+    given-flag-requires-2
     lent-requires-2
-    is-given-requires-3
+    given-flag-requires-3
     lent-requires-3
-    is-given-requires-4
+    given-flag-requires-4
     number-requires
     acl-identity-requires
     cast-is-digit
