@@ -15,7 +15,9 @@ pub mod questions;
 pub mod record;
 pub mod rules;
 
+pub use tokio::runtime::Runtime;
+
 /// One thread, so that the plugin's spawned task runs only while it is awaited.
-pub fn runtime() -> tokio::runtime::Runtime {
+pub fn runtime() -> Runtime {
     tokio::runtime::Builder::new_current_thread().build().expect("a runtime")
 }
