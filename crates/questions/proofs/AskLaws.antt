@@ -8,6 +8,7 @@ use native.Mathlib.Omega.{arith}
 use borrow.Author.Tests.{ltb-true, ltb-false, lt-ltb, le-ltb, eq-eqb, ne-eqb, eqb-false}
 use lib.Dec.{ltb, eqb}
 use lib.ListN.{length, take, drop, length-take}
+use Rattle.json.specs.Lines.{lines}
 use Rattle.table.specs.Table.{some-row}
 use Rattle.rule.specs.RuleText.{rulesOf}
 use Rattle.rule.specs.Rule.{Meaning}
@@ -22,15 +23,16 @@ use Rattle.store.specs.View.{view}
 use Rattle.store.specs.Check.{shapeOf}
 use Rattle.store.specs.declared.Shape.{Shape}
 use Rattle.store.specs.declared.ShapeRead.the-variants.{LaidOut, Malformed}
-use Rattle.store.proofs.LayoutLaws.{Fits, well-formed-fits}
+use Rattle.store.proofs.LayoutLaws.{Fits, well-formed-parts, openable-parts, well-formed-fits}
 use Rattle.store.proofs.PartLaws.{text-read, filters-read, eqs-read, shape-of, shape-is, seen-as, malformed-told, bounds-told}
 use Rattle.store.proofs.ViewLaws.{view-layout, view-well-formed}
 use Rattle.questions.specs.Question.{Question, Decision, kept, Reply, refuses, decides, connects, subscribes, publishes, codeLimit, overGiven, clientOver, questionCause}
 use Rattle.questions.specs.Question as question
 use Rattle.questions.specs.Decision.{Wish, client, wish, keeps, firstFrom, refusal, allowance, byRule, orKept, decide, decided, askView, ask}
-use Rattle.questions.specs.Parts.{filterRows, eqRows, decidingOf, deciding, decidingOn}
+use Rattle.questions.specs.Parts.{filterRows, eqRows, everyRule, decidingOf, deciding, decidingOn}
 use Rattle.questions.specs.declared.Deciding.{Deciding}
 use Rattle.questions.specs.declared.Deciding.the-variants.{Rule as ByRule, NoRule}
+use Rattle.questions.proofs.PassLaws.{faultless-every}
 
 -- ---- an optional text over its limit
 
@@ -86,6 +88,13 @@ module _ (s : List ℕ) {shape : Shape} {v : View} (e : shapeOf (view s) ≡ Lai
       let f = filters-are p in
       let g = eqs-are q in
       r ∙ (λ i. decidingOf (firstFrom (λ t. some-row t (f i)) (λ t. some-row t (g i)) c w 0 (rulesOf (text-is i))))
+
+-- the rule text's lines are rules
+pub text-rules : (s : List ℕ) {shape : Shape} → shapeOf (view s) ≡ LaidOut shape → everyRule (lines (take (16 + shape .text - 16) (drop 16 s))) ≡ true
+text-rules s e =
+    let v = seen-as (view s) _ e in
+    let opens = well-formed-parts (v .seen) (view-well-formed s (v .seen) (v .is)) .head in
+    ap (λ (t : List ℕ). everyRule (lines t)) (text-is s e (v .is)) ∙ faultless-every (v .seen .text) (openable-parts _ _ opens .faultless)
 
 -- the parts lie in the store
 pub record Within (s : List ℕ) (shape : Shape) : Type 0 where

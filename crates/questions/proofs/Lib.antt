@@ -2,3 +2,4 @@ pub mod HeadLaws
 pub mod DecisionLaws
 pub mod AgreeLaws
 pub mod AskLaws
+pub mod PassLaws

@@ -1,10 +1,11 @@
 -- The decision on a rule text and used rows that are lent as parts of their own: what the functions of decision.rt answer.
 use Prim.Native.Nat.{ℕ, zero, suc}
 use mathlib.Core.Bool.{Bool, true, false, _&&_, _||_, not, cond}
-use mathlib.Core.List.{List, []}
+use mathlib.Core.Path.{_≡_}
+use mathlib.Core.List.{List, [], _∷_}
 use mathlib.Core.Option.{Option, none, some, bind}
 use lib.ListN.{length}
-use Rattle.topic.specs.Topic.{treeMatch}
+use Rattle.topic.specs.Topic.{validFilter, treeMatch}
 use Rattle.json.specs.Strings.{stringAt}
 use Rattle.json.specs.Json.{lineValue}
 use Rattle.json.specs.Access.{firstItem, nextItem}
@@ -12,7 +13,7 @@ use Rattle.json.specs.declared.Place.{Place}
 use Rattle.json.specs.declared.Place.the-variants.{At, Nowhere}
 use Rattle.table.specs.Table.{some-row}
 use Rattle.rule.specs.Limits.{textLimit}
-use Rattle.rule.specs.Rule.{Rule, Meaning, means, topicOf, topicMeans}
+use Rattle.rule.specs.Rule.{Rule, Meaning, means, isTemplate, topicOf, topicMeans}
 use Rattle.rule.specs.RuleText.{Result, refused, gives, readRule, ruleOn, rulesOf}
 use Rattle.rule.specs.Identity.{Client, agrees, superuser}
 use Rattle.rule.specs.Places.{valueOf, topicsPlace, fourthOf}
@@ -27,6 +28,10 @@ use Rattle.questions.specs.declared.Asked.{Asked}
 use Rattle.questions.specs.declared.Asked.the-variants.{Connect, Subscribe, Publish}
 use Rattle.questions.specs.declared.Head.{Head}
 use Rattle.questions.specs.declared.Head.the-variants.{Agrees, Differs}
+use Rattle.questions.specs.declared.HeadRead.{HeadRead}
+use Rattle.questions.specs.declared.HeadRead.the-variants.{Is as HeadIs, Unread}
+use Rattle.questions.specs.declared.TopicPassed.{TopicPassed}
+use Rattle.questions.specs.declared.TopicPassed.the-variants.{Agrees as TopicAgrees, Onward}
 use Rattle.questions.specs.declared.Deciding.{Deciding}
 use Rattle.questions.specs.declared.Deciding.the-variants.{Rule as ByRule, NoRule}
 use Rattle.questions.specs.Decision.{Wish, to-connect, to-subscribe, to-publish, covers, staticAgrees, ruleAgrees, firstFrom}
@@ -66,6 +71,20 @@ headOf c asked topics (gives r) =
 unfoldable pub headAt : Client → Asked → List ℕ → Head
 headAt c asked line = headOf c asked (topicsPlace (fourthOf (lineValue line))) (readRule line)
 
+-- where a head is answered
+abbrev pub WhereHead : HeadRead → Head → Type 0
+WhereHead (HeadIs head) known = head ≡ known
+WhereHead Unread known = Unit {0}
+
+-- a line is a rule, and so is each of these
+unfoldable pub isRule : Result Rule → Bool
+isRule (refused cause) = false
+isRule (gives r) = true
+
+unfoldable pub everyRule : List (List ℕ) → Bool
+everyRule [] = true
+everyRule (line ∷ rest) = isRule (readRule line) && everyRule rest
+
 -- the filter at a place of the line T-matches the topic; where no string of at most 256 bytes stands, nothing does
 unfoldable pub filterMatchesAt : List ℕ → List ℕ → ℕ → Bool
 filterMatchesAt topic line at =
@@ -75,6 +94,14 @@ filterMatchesAt topic line at =
 unfoldable pub topicAgreesAt : List ℕ → List ℕ → ℕ → Bool
 topicAgreesAt topic line at =
     elim (bind (valueOf line at) topicOf) [ none ↦ false | some t ↦ not (over textLimit (t .text .text)) && staticAgrees topic (topicMeans t) ]
+
+-- a filter that stands in the line as it is
+unfoldable pub textAgrees : List ℕ → List ℕ → Bool
+textAgrees topic t = treeMatch t topic && (not (over textLimit t) && (not (isTemplate t) && validFilter t))
+
+-- the topic at a place, when it is passed
+unfoldable pub passedTopic : List ℕ → List ℕ → ℕ → TopicPassed
+passedTopic topic line at = cond (topicAgreesAt topic line at) TopicAgrees (Onward (nextItem line at))
 
 -- one of the topics from a place on agrees, of `most` at the most
 unfoldable pub someTopicFrom : List ℕ → ℕ → List ℕ → Place → Bool

@@ -4,7 +4,7 @@ use crate::ConnectAnswer;
 use crate::Deciding;
 use crate::PublishAnswer;
 use crate::SubscribeAnswer;
-use crate::decision::deciding_rule;
+use crate::decision::deciding_in;
 use rule::Given;
 use rule::ID;
 use rule::Protocol;
@@ -103,8 +103,9 @@ fn deciding_on(
     let filters_end = filters_at + shape.filters * Counts::FILTER;
     let eqs_at = counts.eqs_at();
     let eqs_end = eqs_at + shape.eqs * Counts::EQ;
-    deciding_rule(
+    deciding_in(
         &store[Counts::HEADER..text_end],
+        true,
         &store[filters_at..filters_end],
         &store[eqs_at..eqs_end],
         asked,

@@ -3,25 +3,34 @@
 use crate::Asked;
 use crate::Deciding;
 use crate::Head;
+use crate::HeadRead;
+use crate::TopicPassed;
 use json::Copied;
 use json::Place;
+use json::Separator;
 use json::access::first_element;
 use json::access::next_item;
+use json::access::plain_text;
 use json::splitting::line_at;
-use json::splitting::next_line;
 use json::strings::decode;
 use json::strings::string_is;
+use json::values::separator;
 use rule::Control;
+use rule::Front;
 use rule::Given;
 use rule::Identity;
 use rule::Protocol;
+use rule::Rest;
 use rule::Rule;
 use rule::RuleRead;
 use rule::TEXT;
 use rule::Topic;
 use rule::Topics;
 use rule::agreement::identity;
+use rule::ahead::front;
+use rule::ahead::rest;
 use rule::read::read_rule;
+use rule::topic_list::is_template;
 use rule::topic_list::topic_at;
 use store::Counts;
 use store::rows::filter_owner;
@@ -29,8 +38,17 @@ use store::rows::filter_text;
 use store::rows::numbered_text;
 use table::number_at;
 use topic::tree_match;
+use topic::tree_match_known;
+use topic::valid_filter;
 ghost use mathlib.Core.Path.{_≡_};
+ghost use mathlib.Core.Bool.{true, cond};
+ghost use Prim.Native.Nat.{_+_};
+ghost use lib.Dec.{ltb};
 ghost use lib.ListN.{length};
+ghost use Rattle.topic.specs.Topic.{validFilter};
+ghost use Rattle.json.specs.Lines.{lines};
+ghost use Rattle.rule.specs.RuleText.{readRule};
+ghost use Rattle.rule.specs.Front.{itemBehind};
 ghost use Rattle.rule.specs.Places.{given};
 ghost use Rattle.table.specs.Table.{«some-row»};
 ghost use Rattle.questions.specs.Decision as decision;
@@ -119,6 +137,95 @@ fn head(
     }
 }
 
+// The head of a line that is a rule. Where the users differ, nothing behind them is read.
+fn front_head(
+    line: &[u8],
+    asked: Asked,
+    id: &[u8],
+    name: Given,
+    names: &[u8],
+    password: Given,
+    passwords: &[u8],
+    address: Given,
+    addresses: &[u8],
+    protocol: Protocol,
+) -> HeadRead
+    requires { ⌜ spec.isRule (readRule (now line)) ≡ true ⌝ }
+    ensures { λ r. ⌜ spec.WhereHead r (spec.headAt (record { id = now (id .entry); name = given name (now (names .entry)); password = given password (now (passwords .entry)); address = given address (now (addresses .entry)); protocol = spec.protocolOf protocol }) asked (now (line .entry))) ⌝ }
+{
+    let Front::Users(allow, users, end) = front(line) else {
+        return HeadRead::Unread;
+    };
+    let Identity::Agrees(superuser) = identity(
+        line,
+        users,
+        id,
+        name,
+        names,
+        password,
+        passwords,
+        address,
+        addresses,
+        protocol,
+    ) else {
+        return HeadRead::Is(Head::Differs);
+    };
+    let Rest::Rest(control, topics) = rest(line, end) else {
+        return HeadRead::Unread;
+    };
+    if !covers(control, asked) {
+        return HeadRead::Is(Head::Differs);
+    }
+    HeadRead::Is(Head::Agrees(allow, superuser, asked_topics(asked, topics)))
+}
+
+// A line before its topics; with `checked`, the line is known to be a rule.
+fn head_of(
+    line: &[u8],
+    checked: bool,
+    asked: Asked,
+    id: &[u8],
+    name: Given,
+    names: &[u8],
+    password: Given,
+    passwords: &[u8],
+    address: Given,
+    addresses: &[u8],
+    protocol: Protocol,
+) -> Head
+    requires { ⌜ (checked ≡ true → spec.isRule (readRule (now line)) ≡ true) ⌝ }
+    ensures { λ r. ⌜ r ≡ spec.headAt (record { id = now (id .entry); name = given name (now (names .entry)); password = given password (now (passwords .entry)); address = given address (now (addresses .entry)); protocol = spec.protocolOf protocol }) asked (now (line .entry)) ⌝ }
+{
+    if checked {
+        if let HeadRead::Is(known) = front_head(
+            line,
+            asked,
+            id,
+            name,
+            names,
+            password,
+            passwords,
+            address,
+            addresses,
+            protocol,
+        ) {
+            return known;
+        }
+    }
+    head(
+        line,
+        asked,
+        id,
+        name,
+        names,
+        password,
+        passwords,
+        address,
+        addresses,
+        protocol,
+    )
+}
+
 // Does the filter at this place of the line T-match the topic?
 fn filter_matches(line: &[u8], at: usize, topic: &[u8]) -> bool
     ensures { λ r. ⌜ r ≡ spec.filterMatchesAt (now (topic .entry)) (now (line .entry)) at ⌝ }
@@ -142,6 +249,51 @@ fn topic_agrees(line: &[u8], at: usize, topic: &[u8]) -> bool
     }
 }
 
+// Does the text, a filter as it stands in the line, agree by itself? Most don't match; what does must be a rule's filter and no template.
+fn text_agrees(text: &[u8], topic: &[u8], valid: bool) -> bool
+    requires { ⌜ valid ≡ validFilter (now topic) ⌝ }
+    ensures { λ r. ⌜ r ≡ spec.textAgrees (now (topic .entry)) (now (text .entry)) ⌝ }
+{
+    if !tree_match_known(text, topic, valid) {
+        return false;
+    }
+    if TEXT < text.len() {
+        return false;
+    }
+    if is_template(text) {
+        return false;
+    }
+    valid_filter(text)
+}
+
+// The element behind one that ends before this place.
+fn element_behind(line: &[u8], at: usize) -> Place
+    ensures { λ r. ⌜ r ≡ itemBehind (now (line .entry)) at ⌝ }
+{
+    match separator(line, at, b']') {
+        Separator::Comma(next) => Place::At(next),
+        Separator::Close(_) => Place::Nowhere,
+        Separator::Neither => Place::Nowhere,
+    }
+}
+
+// The topic at this place of the rule's array: it agrees by itself, or this is the next one. A plain filter is matched where it stands.
+fn pass_topic(line: &[u8], at: usize, topic: &[u8], valid: bool) -> TopicPassed
+    requires { ⌜ valid ≡ validFilter (now topic) ⌝ }
+    ensures { λ r. ⌜ r ≡ spec.passedTopic (now (topic .entry)) (now (line .entry)) at ⌝ }
+{
+    let Place::At(end) = plain_text(line, at) else {
+        if topic_agrees(line, at, topic) {
+            return TopicPassed::Agrees;
+        }
+        return TopicPassed::Onward(next_item(line, at));
+    };
+    if text_agrees(&line[at + 1..end], topic, valid) {
+        return TopicPassed::Agrees;
+    }
+    TopicPassed::Onward(element_behind(line, end + 1))
+}
+
 // Is there an eq row of the rule, counted from 0, that is the topic?
 fn eq_row_agrees(eqs: &[u8], rule: usize, topic: &[u8]) -> bool
     ensures { λ r. ⌜ r ≡ «some-row» (decision.eqAgrees rule (now (topic .entry))) (spec.eqRows (now (eqs .entry))) ⌝ }
@@ -161,7 +313,8 @@ fn eq_row_agrees(eqs: &[u8], rule: usize, topic: &[u8]) -> bool
 }
 
 // Is there a filter row of the rule and the client that T-matches the topic?
-fn filter_row_agrees(filters: &[u8], rule: usize, id: &[u8], topic: &[u8]) -> bool
+fn filter_row_agrees(filters: &[u8], rule: usize, id: &[u8], topic: &[u8], valid: bool) -> bool
+    requires { ⌜ valid ≡ validFilter (now topic) ⌝ }
     ensures { λ r. ⌜ r ≡ «some-row» (decision.filterAgrees rule (now (id .entry)) (now (topic .entry))) (spec.filterRows (now (filters .entry))) ⌝ }
 {
     let mut at = 0;
@@ -170,7 +323,7 @@ fn filter_row_agrees(filters: &[u8], rule: usize, id: &[u8], topic: &[u8]) -> bo
         let row = &filters[at..next];
         if number_at(row, 0) == rule {
             if text::same(filter_owner(row), id) {
-                if tree_match(filter_text(row), topic) {
+                if tree_match_known(filter_text(row), topic, valid) {
                     return true;
                 }
             }
@@ -245,12 +398,23 @@ pub fn rule_agrees(
     if eq_row_agrees(eqs, rule, topic) {
         return true;
     }
-    filter_row_agrees(filters, rule, id, topic)
+    filter_row_agrees(filters, rule, id, topic, valid_filter(topic))
 }
 
-// "The first rule whose control, users and topics all agree decides."
-pub fn deciding_rule(
+// The offset of the line behind one that ends at this place.
+fn line_behind(rules: &[u8], end: usize) -> usize
+    ensures { λ r. ⌜ r ≡ cond (ltb end (length (now (rules .entry)))) (end + 1) (length (now (rules .entry))) ⌝ }
+{
+    if end < rules.len() {
+        return end + 1;
+    }
+    rules.len()
+}
+
+// "The first rule whose control, users and topics all agree decides." With `checked`, each line is known to be a rule.
+pub(crate) fn deciding_in(
     rules: &[u8],
+    checked: bool,
     filters: &[u8],
     eqs: &[u8],
     asked: Asked,
@@ -264,8 +428,10 @@ pub fn deciding_rule(
     protocol: Protocol,
     topic: &[u8],
 ) -> Deciding
+    requires { ⌜ (checked ≡ true → spec.everyRule (lines (now rules)) ≡ true) ⌝ }
     ensures { λ r. ⌜ r ≡ spec.deciding (record { id = now (id .entry); name = given name (now (names .entry)); password = given password (now (passwords .entry)); address = given address (now (addresses .entry)); protocol = spec.protocolOf protocol }) (spec.wishOf asked (now (topic .entry))) (now (rules .entry)) (now (filters .entry)) (now (eqs .entry)) ⌝ }
 {
+    let valid = valid_filter(topic);
     let mut allow = false;
     let mut superuser = false;
     let mut n = 0;
@@ -275,10 +441,11 @@ pub fn deciding_rule(
             break 'rules 0;
         }
         let line = line_at(rules, at);
-        at = next_line(rules, at);
+        at = line_behind(rules, at + line.len());
         n += 1;
-        match head(
+        match head_of(
             line,
+            checked,
             asked,
             id,
             name,
@@ -305,19 +472,21 @@ pub fn deciding_rule(
                                 Place::Nowhere => {
                                     turns = 0;
                                 }
-                                Place::At(p) => {
-                                    if topic_agrees(line, p, topic) {
+                                Place::At(p) => match pass_topic(line, p, topic, valid) {
+                                    TopicPassed::Agrees => {
                                         break 'rules n;
                                     }
-                                    next = next_item(line, p);
-                                    turns -= 1;
-                                }
+                                    TopicPassed::Onward(place) => {
+                                        next = place;
+                                        turns -= 1;
+                                    }
+                                },
                             }
                         }
                         if eq_row_agrees(eqs, n - 1, topic) {
                             break 'rules n;
                         }
-                        if filter_row_agrees(filters, n - 1, id, topic) {
+                        if filter_row_agrees(filters, n - 1, id, topic, valid) {
                             break 'rules n;
                         }
                     }
@@ -329,4 +498,40 @@ pub fn deciding_rule(
         return Deciding::NoRule;
     }
     Deciding::Rule(decided, allow, superuser)
+}
+
+// The rule that decides, of a text of any lines.
+pub fn deciding_rule(
+    rules: &[u8],
+    filters: &[u8],
+    eqs: &[u8],
+    asked: Asked,
+    id: &[u8],
+    name: Given,
+    names: &[u8],
+    password: Given,
+    passwords: &[u8],
+    address: Given,
+    addresses: &[u8],
+    protocol: Protocol,
+    topic: &[u8],
+) -> Deciding
+    ensures { λ r. ⌜ r ≡ spec.deciding (record { id = now (id .entry); name = given name (now (names .entry)); password = given password (now (passwords .entry)); address = given address (now (addresses .entry)); protocol = spec.protocolOf protocol }) (spec.wishOf asked (now (topic .entry))) (now (rules .entry)) (now (filters .entry)) (now (eqs .entry)) ⌝ }
+{
+    deciding_in(
+        rules,
+        false,
+        filters,
+        eqs,
+        asked,
+        id,
+        name,
+        names,
+        password,
+        passwords,
+        address,
+        addresses,
+        protocol,
+        topic,
+    )
 }

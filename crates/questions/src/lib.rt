@@ -3,6 +3,7 @@
 pub mod ask;
 pub mod decision;
 
+use json::Place;
 use rule::Refusal;
 use rule::Topics;
 
@@ -17,6 +18,18 @@ pub enum Asked {
 pub enum Head {
     Agrees(bool, bool, Topics),
     Differs,
+}
+
+// The head of a line that is known to be a rule, read no further than it agrees; or that its words aren't plain.
+pub enum HeadRead {
+    Is(Head),
+    Unread,
+}
+
+// A topic that is passed: it agrees by itself, or this is the next one.
+pub enum TopicPassed {
+    Agrees,
+    Onward(Place),
 }
 
 // The first rule that agrees: its number from 1, its access and the superuser flag.

@@ -2,7 +2,7 @@
 use native.Mathlib.Omega.{arith}
 use borrow.Author.Needs.{needs}
 use denote.Ref.{now}
-use Rattle.questions.proofs.AskLaws.{Within, within, decides-on}
+use Rattle.questions.proofs.AskLaws.{Within, within, text-rules, decides-on}
 use Rattle.questions.proofs.ask.deciding_on.Statement.{statement}
 use Rattle.questions.proofs.ask.deciding_on.Tie as tie
 
@@ -34,41 +34,41 @@ mul-eqs-end c = omega (arith, parts (c .before .before .before .before) .eqs)
 add-eqs-end : tie.Need-add-eqs-end
 add-eqs-end c = omega (arith, parts (c .before .before .before .before) .eqs, c .before .eqs-at .ensures)
 
-sub-deciding-rule : tie.Need-sub-deciding-rule
-sub-deciding-rule c = search needs
+sub-deciding-in : tie.Need-sub-deciding-in
+sub-deciding-in c = search needs
 
-part-deciding-rule-start : tie.Need-part-deciding-rule-start
-part-deciding-rule-start c = search needs
+part-deciding-in-start : tie.Need-part-deciding-in-start
+part-deciding-in-start c = search needs
 
-part-deciding-rule-end : tie.Need-part-deciding-rule-end
-part-deciding-rule-end c = omega (arith, parts (c .before .before .before .before) .text)
+part-deciding-in-end : tie.Need-part-deciding-in-end
+part-deciding-in-end c = omega (arith, parts (c .before .before .before .before) .text)
 
-sub-deciding-rule-2 : tie.Need-sub-deciding-rule-2
-sub-deciding-rule-2 c = search needs
+sub-deciding-in-2 : tie.Need-sub-deciding-in-2
+sub-deciding-in-2 c = search needs
 
-part-deciding-rule-start-2 : tie.Need-part-deciding-rule-start-2
-part-deciding-rule-start-2 c = search needs
+part-deciding-in-start-2 : tie.Need-part-deciding-in-start-2
+part-deciding-in-start-2 c = search needs
 
-part-deciding-rule-end-2 : tie.Need-part-deciding-rule-end-2
-part-deciding-rule-end-2 c = omega (arith, parts (c .before .before .before .before .before) .filters, c .before .before .before .before .filters-at .ensures)
+part-deciding-in-end-2 : tie.Need-part-deciding-in-end-2
+part-deciding-in-end-2 c = omega (arith, parts (c .before .before .before .before .before) .filters, c .before .before .before .before .filters-at .ensures)
 
-sub-deciding-rule-3 : tie.Need-sub-deciding-rule-3
-sub-deciding-rule-3 c = search needs
+sub-deciding-in-3 : tie.Need-sub-deciding-in-3
+sub-deciding-in-3 c = search needs
 
-part-deciding-rule-start-3 : tie.Need-part-deciding-rule-start-3
-part-deciding-rule-start-3 c = search needs
+part-deciding-in-start-3 : tie.Need-part-deciding-in-start-3
+part-deciding-in-start-3 c = search needs
 
-part-deciding-rule-end-3 : tie.Need-part-deciding-rule-end-3
-part-deciding-rule-end-3 c = omega (arith, parts (c .before .before .before .before .before .before) .eqs, c .before .before .before .eqs-at .ensures)
+part-deciding-in-end-3 : tie.Need-part-deciding-in-end-3
+part-deciding-in-end-3 c = omega (arith, parts (c .before .before .before .before .before .before) .eqs, c .before .before .before .eqs-at .ensures)
 
-deciding-rule-requires : tie.Need-deciding-rule-requires
-deciding-rule-requires c κs = search needs
+deciding-in-requires : tie.Need-deciding-in-requires
+deciding-in-requires c κs = λ k. let s = start (c .before .before .before .before .before .before .before) in text-rules (now (s .args .store)) (s .pre)
 
 returns : tie.Need-returns
 returns c v h =
     let d = c .before .before .before .before in
     let s = start (d .before .before .before .before) in
-    decides-on (now (s .args .store)) (s .pre) h _ _ (d .before .before .before .filters-at .ensures) (d .before .eqs-at .ensures) (c .deciding-rule .ensures)
+    decides-on (now (s .args .store)) (s .pre) h _ _ (d .before .before .before .filters-at .ensures) (d .before .eqs-at .ensures) (c .deciding-in .ensures)
 
 pub deciding-on-spec : {M : Type 1} → statement M
 deciding-on-spec =
@@ -81,14 +81,14 @@ deciding-on-spec =
     eqs-at-requires
     mul-eqs-end
     add-eqs-end
-    sub-deciding-rule
-    part-deciding-rule-start
-    part-deciding-rule-end
-    sub-deciding-rule-2
-    part-deciding-rule-start-2
-    part-deciding-rule-end-2
-    sub-deciding-rule-3
-    part-deciding-rule-start-3
-    part-deciding-rule-end-3
-    deciding-rule-requires
+    sub-deciding-in
+    part-deciding-in-start
+    part-deciding-in-end
+    sub-deciding-in-2
+    part-deciding-in-start-2
+    part-deciding-in-end-2
+    sub-deciding-in-3
+    part-deciding-in-start-3
+    part-deciding-in-end-3
+    deciding-in-requires
     returns)

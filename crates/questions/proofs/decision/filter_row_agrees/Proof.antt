@@ -13,15 +13,16 @@ use Rattle.store.proofs.PartLaws.{rowsFrom, some-more, some-none}
 use Rattle.questions.specs.Decision.{filterAgrees}
 use Rattle.questions.specs.Parts.{filterRows}
 use Rattle.questions.proofs.DecisionLaws.{filter-text, filter-owner, filter-other}
+use Rattle.questions.proofs.PassLaws.{known-match}
 use Rattle.questions.proofs.decision.filter_row_agrees.Statement.{statement}
 use Rattle.questions.proofs.decision.filter_row_agrees.Tie as tie
 
 abbrev Inv-loop : tie.InvT-loop
-Inv-loop filters rule id topic at₀ at =
+Inv-loop filters rule id topic valid at₀ at =
     (at ≤ length filters) × (some-row (filterAgrees rule id topic) (rowsFrom filterCodec at filters) ≡ some-row (filterAgrees rule id topic) (filterRows filters))
 
 abbrev μ-loop : tie.MeasureT-loop
-μ-loop filters rule id topic at₀ at = length filters - at
+μ-loop filters rule id topic valid at₀ at = length filters - at
 
 loop-holds : tie.Need-loop-holds Inv-loop μ-loop
 unfolding rowsFrom filterRows
@@ -54,8 +55,8 @@ same-requires c κs = search needs
 filter-text-requires : tie.Need-filter-text-requires Inv-loop μ-loop
 filter-text-requires c κs = search needs
 
-tree-match-requires : tie.Need-tree-match-requires Inv-loop μ-loop
-tree-match-requires c κs = search needs
+tree-match-known-requires : tie.Need-tree-match-known-requires Inv-loop μ-loop
+tree-match-known-requires c κs = search needs
 
 returns : tie.Need-returns Inv-loop μ-loop
 unfolding filterCodec
@@ -64,7 +65,8 @@ returns c =
     let n = o .before .before .before .before in
     let l = n .before .before .before .loop in
     let owned = filter-text _ _ _ (n .number-at .ensures) _ (o .before .before .before .if1 .taken) (o .before .before .filter-owner .ensures) (o .before .same .ensures) (o .if2 .taken) in
-    let agrees = owned (c .before .before .filter-text .ensures) (c .before .tree-match .ensures) (c .if3 .taken) in
+    let told = c .before .tree-match-known .ensures ∙ known-match _ _ (c .before .before .before .before .before .before .before .before .before .before .before .before .before .before .pre) in
+    let agrees = owned (c .before .before .filter-text .ensures) told (c .if3 .taken) in
     sym (some-more filterCodec (l .at) _ _ (omega arith) (omega arith) agrees) ∙ l .inv .1
 
 loop-less : tie.Need-loop-less Inv-loop μ-loop
@@ -77,7 +79,8 @@ loop-again c =
     let n = o .before .before .before .before in
     let l = n .before .before .before .loop in
     let owned = filter-text _ _ _ (n .number-at .ensures) _ (o .before .before .before .if1 .taken) (o .before .before .filter-owner .ensures) (o .before .same .ensures) (o .if2 .taken) in
-    let agrees = owned (c .before .before .filter-text .ensures) (c .before .tree-match .ensures) (c .if3 .left) in
+    let told = c .before .tree-match-known .ensures ∙ known-match _ _ (c .before .before .before .before .before .before .before .before .before .before .before .before .before .before .pre) in
+    let agrees = owned (c .before .before .filter-text .ensures) told (c .if3 .left) in
     (omega arith, sym (some-more filterCodec (l .at) _ _ (omega arith) (omega arith) agrees) ∙ l .inv .1)
 
 loop-less-2 : tie.Need-loop-less-2 Inv-loop μ-loop
@@ -123,7 +126,7 @@ filter-row-agrees-spec =
     filter-owner-requires
     same-requires
     filter-text-requires
-    tree-match-requires
+    tree-match-known-requires
     returns
     loop-less
     loop-again

@@ -54,17 +54,20 @@ returns-4 c =
     (line-by _ _ _ _ _ _ _ (sym (a .before .before .head .ensures) ∙ a .topics .given .1) (t .topics2 .given .1) (c .before .before .before .before .first-element .ensures)
     (sym (c .before .before .before .some-topic-agrees .ensures) ∙ c .before .before .if1 .left) (sym (c .before .eq-row-agrees .ensures) ∙ c .if2 .taken))
 
+valid-filter-requires : tie.Need-valid-filter-requires
+valid-filter-requires c κs = search needs
+
 filter-row-agrees-requires : tie.Need-filter-row-agrees-requires
-filter-row-agrees-requires c κs = search needs
+filter-row-agrees-requires c κs = c .valid-filter .ensures
 
 returns-5 : tie.Need-returns-5
 returns-5 c =
-    let t = c .before .before .before .before .before .before .before in
+    let t = c .before .before .before .before .before .before .before .before in
     let a = t .before .before .before in
     c .filter-row-agrees .ensures
     ∙ sym
-    (line-by _ _ _ _ _ _ _ (sym (a .before .before .head .ensures) ∙ a .topics .given .1) (t .topics2 .given .1) (c .before .before .before .before .before .first-element .ensures)
-    (sym (c .before .before .before .before .some-topic-agrees .ensures) ∙ c .before .before .before .if1 .left) (sym (c .before .before .eq-row-agrees .ensures) ∙ c .before .if2 .left))
+    (line-by _ _ _ _ _ _ _ (sym (a .before .before .head .ensures) ∙ a .topics .given .1) (t .topics2 .given .1) (c .before .before .before .before .before .before .first-element .ensures)
+    (sym (c .before .before .before .before .before .some-topic-agrees .ensures) ∙ c .before .before .before .before .if1 .left) (sym (c .before .before .before .eq-row-agrees .ensures) ∙ c .before .before .if2 .left))
 
 pub rule-agrees-spec : {M : Type 1} → statement M
 rule-agrees-spec =
@@ -82,5 +85,6 @@ rule-agrees-spec =
     returns-3
     eq-row-agrees-requires
     returns-4
+    valid-filter-requires
     filter-row-agrees-requires
     returns-5)
