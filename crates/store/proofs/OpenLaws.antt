@@ -1,7 +1,7 @@
 -- Laws of opening: counts in range, each answer of `open`, and the bytes that it writes. Assumes nothing.
 use Prim.Native.Nat.{ℕ, _+_, _-_, _*_, _≤_, _<_}
 use mathlib.Core.Path.{_≡_, refl, sym, ap, _∙_}
-use mathlib.Core.Bool.{Bool, true, false, _&&_, true≢false}
+use mathlib.Core.Bool.{Bool, true, false, _&&_, cond, true≢false}
 use mathlib.Core.List.{List, [], _++_}
 use mathlib.Core.Option.{Option, none, some, Option·map}
 use native.Mathlib.Nat.{sub-zero}
@@ -25,8 +25,9 @@ use Rattle.store.specs.declared.CountsRead.the-variants.{Counts as Count
 use Rattle.store.specs.declared.Opened.the-variants.{Done, Refused}
 use Rattle.store.specs.Store.{oneTo, countsFit, storeLength, bytesLimit, rowsLimit, filterSize, eqSize, noteSize}
 use Rattle.store.specs.Layout.{Codec, pad, filterCodec, numberedCodec, eqCodec, noteCodec, putAll, area, header, layout}
-use Rattle.store.specs.View.{faultless}
-use Rattle.store.specs.Check.{countsRead, textFine}
+use Rattle.store.specs.declared.RulesRead.the-variants.{Rules, Malformed as BadText}
+use Rattle.store.specs.View.{faultless, rules}
+use Rattle.store.specs.Check.{countsRead, textFine, textRules}
 use Rattle.store.specs.Opening.{openFault, opened, afterOpen, told, says}
 use Rattle.store.proofs.RowLaws.{pasted-into, pasted-pad, cleared-all}
 
@@ -147,6 +148,11 @@ unfolding textFine
 text-fine-by {zero} used part h e =
     let all = take-all (length part - used) (drop used part) (omega (arith, length-drop used part)) in
     rw (le-leb used (length part) h, ← all, ← e)
+
+-- its rules, by whether it is fine
+pub text-rules-by : {fine : Bool} (used : ℕ) (part : List ℕ) → fine ≡ textFine used part → cond fine (Rules (rules (take used part))) BadText ≡ textRules used part
+unfolding textRules
+text-rules-by used part e = λ i. cond (e i) (Rules (rules (take used part))) BadText
 
 -- ---- the fault of an opening, by the tests in their order
 

@@ -2,29 +2,26 @@
 -- that the elements are bytes.
 use Prim.Native.Nat.{ℕ, suc, _+_, _-_, _*_, _≤_}
 use mathlib.Core.Path.{_≡_, refl, sym, _∙_}
-use mathlib.Core.Bool.{Bool, true, false, true≢false}
+use mathlib.Core.Bool.{Bool, true, false, cond}
 use mathlib.Core.List.{List}
 use mathlib.Core.Option.{Option, none, some}
 use native.Mathlib.Omega.{arith}
-use borrow.Author.Tests.{eq-eqb, leb-true, ltb-false}
-use lib.Dec.{leb, ltb}
-use lib.ListN.{length, take, drop, length-take}
-use lib.Seq.{take-take}
-use Rattle.text.proofs.Laws.{isnt, and-split}
-use Rattle.json.specs.Lines.{lines, countUpTo}
-use Rattle.table.specs.Bytes.{number, zeros}
+use borrow.Author.Tests.{eq-eqb}
+use lib.ListN.{length, take, drop}
+use Rattle.text.proofs.Laws.{isnt}
+use Rattle.table.specs.Bytes.{number}
 use Rattle.table.proofs.JoinLaws.{Bytes}
-use Rattle.rule.specs.Limits.{linesLimit}
-use Rattle.rule.specs.RuleText.{textFault}
 use Rattle.store.specs.declared.Counts.{Counts}
 use Rattle.store.specs.declared.CountsRead.{CountsRead}
 use Rattle.store.specs.declared.Shape.{Shape}
 use Rattle.store.specs.declared.ShapeRead.{ShapeRead}
 use Rattle.store.specs.declared.ShapeRead.the-variants.{LaidOut, Malformed}
+use Rattle.store.specs.declared.RulesRead.{RulesRead}
+use Rattle.store.specs.declared.RulesRead.the-variants.{Rules, Malformed as BadText}
 use Rattle.store.specs.Store.{countsFit, storeLength, filterSize, eqSize, noteSize, sessionLimit, View}
 use Rattle.store.specs.Layout.{counts, textUsed, filtersUsed, eqsUsed, notesUsed, filtersAt, eqsAt, notesAt, textPart, filterPart, eqPart, notePart}
-use Rattle.store.specs.View.{faultless, rules, view}
-use Rattle.store.specs.Check.{countsRead, textFine, tableFine, rulesOf, laidOut, shapeOf, isThere}
+use Rattle.store.specs.View.{view}
+use Rattle.store.specs.Check.{countsRead, textFine, textRules, tableFine, rulesOf, laidOut, shapeOf, isThere}
 use Rattle.store.proofs.ViewLaws.{Laid, laid, shape-laid-out, shape-malformed}
 
 -- ---- the answers
@@ -99,10 +96,25 @@ note-cut {from} s e p = let n : length s - from ≡ counts s .notes * noteSize =
 
 -- ---- what each test told
 
-pub text-told : {answer : Bool} {used at : ℕ} (s : List ℕ) → used ≡ number (drop 8 s) → at ≡ filtersAt (counts s)
-    → answer ≡ textFine used (take (at - 16) (drop 16 s)) → answer ≡ textFine (textUsed s) (textPart s)
-unfolding textUsed
-text-told s p q h = rw (text-cut s q, p) at h
+module _ {answer : RulesRead} {used at : ℕ} (s : List ℕ) (p : used ≡ number (drop 8 s)) (q : at ≡ filtersAt (counts s))
+    (h : answer ≡ textRules used (take (at - 16) (drop 16 s))) where
+  of-text : answer ≡ cond (textFine (textUsed s) (textPart s)) (Rules (rulesOf s)) BadText
+  unfolding textRules textUsed rulesOf
+  of-text = rw (text-cut s q, p) at h
+
+  pub rules-told : {n : ℕ} → answer ≡ Rules n → (textFine (textUsed s) (textPart s) ≡ true) × (n ≡ rulesOf s)
+  rules-told {n} e = by (textFine (textUsed s) (textPart s)) (sym e ∙ of-text)
+    where
+      by : (fine : Bool) → Rules n ≡ cond fine (Rules (rulesOf s)) BadText → (fine ≡ true) × (n ≡ rulesOf s)
+      by true k = let same : n ≡ rulesOf s = cc in (refl, same)
+      by false k = let z : _≡_ {A = ℕ} 0 1 = cc in absurd (omega arith)
+
+  pub text-told : answer ≡ BadText → textFine (textUsed s) (textPart s) ≡ false
+  text-told e = by (textFine (textUsed s) (textPart s)) (sym e ∙ of-text)
+    where
+      by : (fine : Bool) → BadText ≡ cond fine (Rules (rulesOf s)) BadText → fine ≡ false
+      by true k = let z : _≡_ {A = ℕ} 0 1 = cc in absurd (omega arith)
+      by false k = refl
 
 pub filters-told : {answer : Bool} {bound used from to : ℕ} (s : List ℕ) → bound ≡ rulesOf s → used ≡ number (drop 10 s) → from ≡ filtersAt (counts s)
     → to ≡ eqsAt (counts s) → answer ≡ tableFine true bound used (take (to - from) (drop from s))
@@ -121,36 +133,3 @@ pub notes-told : {answer : Bool} {used from : ℕ} (s : List ℕ) → length s �
     → answer ≡ tableFine false (suc sessionLimit) (notesUsed s) (notePart s)
 unfolding notesUsed
 notes-told s e u p h = rw (note-cut s e p, u) at h
-
--- ---- the rules of a fine text
-
--- it is as long as its stretch at most, and has no fault
-pub fine-parts : (s : List ℕ) → textFine (textUsed s) (textPart s) ≡ true
-    → (textUsed s ≤ counts s .bytes) × (faultless (textFault (take (textUsed s) (textPart s))) ≡ true)
-unfolding textFine textPart
-fine-parts s e =
-    let a = and-split (leb (textUsed s) (length (textPart s))) _ e in
-    let b = and-split (zeros (drop (textUsed s) (textPart s))) _ (a .1) in
-    (omega (arith, leb-true (textUsed s) (length (textPart s)) (a .0), length-take (counts s .bytes) (drop 16 s)), b .1)
-
-pub text-room : (s : List ℕ) → textFine (textUsed s) (textPart s) ≡ true → 16 + number (drop 8 s) ≤ filtersAt (counts s)
-unfolding textUsed filtersAt
-text-room s e = omega (arith, fine-parts s e .0)
-
-lines-few : (text : List ℕ) → faultless (textFault text) ≡ true → length (lines text) ≤ linesLimit
-unfolding textFault faultless
-lines-few text = at (ltb linesLimit (length (lines text))) refl
-  where
-    at : (b : Bool) → ltb linesLimit (length (lines text)) ≡ b → faultless (textFault text) ≡ true → length (lines text) ≤ linesLimit
-    at true q e = absurd (true≢false (sym (rw q at e)))
-    at false q e = ltb-false _ _ q
-
--- so `count_lines` counts them all
-pub rules-told : {bound used : ℕ} (s : List ℕ) → textFine (textUsed s) (textPart s) ≡ true → used ≡ number (drop 8 s)
-    → bound ≡ countUpTo linesLimit (take (16 + used - 16) (drop 16 s)) → bound ≡ rulesOf s
-unfolding textUsed textPart rulesOf rules countUpTo
-rules-told {bound} {used} s e u h =
-    let parts = fine-parts s e in
-    let n : 16 + used - 16 ≡ textUsed s = omega arith in
-    let told = rw (n, ← take-take (textUsed s) (counts s .bytes) (drop 16 s) (parts .0)) at h in
-    omega (arith, told, lines-few (take (textUsed s) (textPart s)) (parts .1))

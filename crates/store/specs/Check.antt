@@ -17,6 +17,8 @@ use Rattle.store.specs.declared.CountsRead.the-variants.{Counts as Count
 use Rattle.store.specs.declared.Shape.{Shape}
 use Rattle.store.specs.declared.ShapeRead.{ShapeRead}
 use Rattle.store.specs.declared.ShapeRead.the-variants.{LaidOut, Malformed}
+use Rattle.store.specs.declared.RulesRead.{RulesRead}
+use Rattle.store.specs.declared.RulesRead.the-variants.{Rules, Malformed as BadText}
 use Rattle.store.specs.Store.{filterSize, eqSize, sessionLimit, countsFit, storeLength, View}
 use Rattle.store.specs.Layout.{filterText, counts, textUsed, filtersUsed, eqsUsed, notesUsed, textPart, filterPart, eqPart, notePart}
 use Rattle.store.specs.View.{faultless, rules}
@@ -24,6 +26,10 @@ use Rattle.store.specs.View.{faultless, rules}
 -- the rule text with its padding, of which so many bytes are used
 unfoldable pub textFine : ℕ → List ℕ → Bool
 textFine used part = leb used (length part) && (zeros (drop used part) && faultless (textFault (take used part)))
+
+-- the number of its rules, if it is as laid out
+unfoldable pub textRules : ℕ → List ℕ → RulesRead
+textRules used part = cond (textFine used part) (Rules (rules (take used part))) BadText
 
 -- a field of `width` bytes from `at` on with a text of `n` bytes: "lengths", "padding"
 unfoldable pub padded : ℕ → ℕ → ℕ → List ℕ → Bool

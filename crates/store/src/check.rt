@@ -1,16 +1,15 @@
 // The check behind number 3 (document 01, Refusals by operation): is a store as laid out? On any bytes of any length.
 use crate::Counts;
 use crate::CountsRead;
+use crate::RulesRead;
 use crate::SESSIONS;
 use crate::Shape;
 use crate::ShapeRead;
 use crate::rows::filter_text;
-use json::splitting::count_lines;
 use rule::ID;
-use rule::LINES;
+use rule::RulesCounted;
 use rule::TEXT;
-use rule::TextRead;
-use rule::read::check_text;
+use rule::read::count_rules;
 use table::all_zero;
 use table::distinct;
 use table::number_at;
@@ -20,18 +19,18 @@ ghost use Rattle.store.specs.View as view_spec;
 ghost use Rattle.store.specs.Check as spec;
 
 // "Rule text", of which the first `used` bytes count, and its padding.
-fn text_fine(part: &[u8], used: usize) -> bool
-    ensures { λ r. ⌜ r ≡ spec.textFine used (now (part .entry)) ⌝ }
+fn text_rules(part: &[u8], used: usize) -> RulesRead
+    ensures { λ r. ⌜ r ≡ spec.textRules used (now (part .entry)) ⌝ }
 {
     if part.len() < used {
-        return false;
+        return RulesRead::Malformed;
     }
     if !all_zero(&part[used..]) {
-        return false;
+        return RulesRead::Malformed;
     }
-    match check_text(&part[..used]) {
-        TextRead::Fine => true,
-        TextRead::Faulty(_, _) => false,
+    match count_rules(&part[..used]) {
+        RulesCounted::Rules(n) => RulesRead::Rules(n),
+        RulesCounted::Faulty(_, _) => RulesRead::Malformed,
     }
 }
 
@@ -143,11 +142,10 @@ pub fn shape(store: &[u8]) -> ShapeRead
     }
     let text = number_at(store, 8);
     let filters_at = counts.filters_at();
-    if !text_fine(&store[Counts::HEADER..filters_at], text) {
+    let counted = text_rules(&store[Counts::HEADER..filters_at], text);
+    let RulesRead::Rules(rules) = counted else {
         return ShapeRead::Malformed;
-    }
-    let text_end = Counts::HEADER + text;
-    let rules = count_lines(&store[Counts::HEADER..text_end], LINES);
+    };
     let filters = number_at(store, 10);
     let eqs_at = counts.eqs_at();
     if !table_fine(&store[filters_at..eqs_at], true, filters, rules) {

@@ -40,6 +40,12 @@ pub enum ShapeRead {
     Malformed,
 }
 
+// The rule text of a store as laid out: the number of its rules.
+pub enum RulesRead {
+    Rules(usize),
+    Malformed,
+}
+
 // What `open` answers: done, or a refusal with its line (0 none, 257 too many lines).
 pub enum Opened {
     Done,

@@ -1,6 +1,6 @@
 -- `store::check::shape` meets its contract. There is no loop: what each test told of the store's bytes is a fact of its own, and each
 -- answer follows from the tests before it. Assumes nothing.
-use Prim.Native.Nat.{ℕ, suc, _+_, _≤_}
+use Prim.Native.Nat.{ℕ, suc}
 use mathlib.Core.Path.{_≡_, sym, ap, _∙_}
 use mathlib.Core.Bool.{true, false, true≢false}
 use mathlib.Core.List.{List}
@@ -8,26 +8,25 @@ use native.Mathlib.Omega.{arith}
 use borrow.Author.Needs.{needs}
 use borrow.Author.Tests.{not-true, not-false}
 use denote.Ref.{now}
-use lib.ListN.{length}
 use Rattle.table.proofs.JoinLaws.{Bytes}
 use Rattle.store.specs.Store.{countsFit, storeLength, sessionLimit}
 use Rattle.store.specs.Layout.{counts, textUsed, filtersUsed, eqsUsed, notesUsed, filtersAt, eqsAt, notesAt, textPart, filterPart, eqPart, notePart}
 use Rattle.store.specs.Check.{countsRead, textFine, tableFine, rulesOf}
 use Rattle.store.proofs.OpenLaws.{out-told, in-told}
 use Rattle.store.proofs.ViewLaws.{Laid}
-use Rattle.store.proofs.ShapeLaws.{shape-not, shape-is, header-told, Counted, Bounds, bounds, text-told, text-room, rules-told, filters-told, eqs-told, notes-told}
+use Rattle.store.proofs.ShapeLaws.{shape-not, shape-is, header-told, Counted, Bounds, bounds, text-told, rules-told, filters-told, eqs-told, notes-told}
 use Rattle.store.proofs.check.shape.Statement.{statement}
 use Rattle.store.proofs.check.shape.Tie as tie
 
 -- ---- the places behind the tests, each from the next
 
-abbrev one : tie.Else2 → tie.Else1
-one c = c .before .before .before .before .before
+abbrev one : tie.After-known-told2 → tie.Else1
+one c = c .before .before .before .before .before .before .before
 
-abbrev two : tie.Else3 → tie.Else2
-two c = c .before .before .before .before .before .before .before
+abbrev two : tie.Else2 → tie.After-known-told2
+two c = c .before .before .before .before .before
 
-abbrev three : tie.Else4 → tie.Else3
+abbrev three : tie.Else3 → tie.Else2
 three c = c .before .before .before .before .before
 
 abbrev store : tie.Else1 → List ℕ
@@ -60,29 +59,20 @@ in-bounds c = bounds (store c) (counted c .size)
 filters-begin : (c : tie.After-filters-at) → c .filters-at .result ≡ filtersAt (counts (store (c .before .before)))
 filters-begin c = c .filters-at .ensures ∙ ap filtersAt (counted (c .before .before) .read)
 
-text-test : (c : tie.After-text-fine) → let s = store (c .before .before .before .before) in c .text-fine .result ≡ textFine (textUsed s) (textPart s)
-text-test c =
-    text-told (store (c .before .before .before .before)) (c .before .before .before .number-at5 .ensures) (filters-begin (c .before .before)) (c .text-fine .ensures)
+text : (c : tie.After-known-told2) → let s = store (one c) in (textFine (textUsed s) (textPart s) ≡ true) × (c .before .counted .given .0 .0 ≡ rulesOf s)
+text c =
+    let r = c .before .before .before in
+    let f = r .before .before in
+    rules-told (store (one c)) (f .before .number-at5 .ensures) (filters-begin f) (r .text-rules .ensures) (c .before .counted .given .1)
 
-text-holds : (c : tie.Else2) → textFine (textUsed (store (one c))) (textPart (store (one c))) ≡ true
-text-holds c = sym (text-test (c .before)) ∙ not-false _ (c .if2 .left)
+eqs-begin : (c : tie.After-eqs-at) → c .eqs-at .result ≡ eqsAt (counts (store (one (c .before .before))))
+eqs-begin c = c .eqs-at .ensures ∙ ap eqsAt (counted (one (c .before .before)) .read)
 
-text-within : (c : tie.Else2) → 16 + c .before .before .before .before .number-at5 .result ≤ length (store (one c))
-text-within c = omega (arith, text-room (store (one c)) (text-holds c), c .before .before .before .before .number-at5 .ensures, in-bounds (one c))
-
-rules-counted : (c : tie.After-count-lines) → c .count-lines .result ≡ rulesOf (store (one (c .before .before)))
-rules-counted c =
-    let d = c .before .before in
-    rules-told (store (one d)) (text-holds d) (d .before .before .before .before .number-at5 .ensures) (c .count-lines .ensures)
-
-eqs-begin : (c : tie.After-eqs-at) → c .eqs-at .result ≡ eqsAt (counts (store (one (c .before .before .before .before))))
-eqs-begin c = c .eqs-at .ensures ∙ ap eqsAt (counted (one (c .before .before .before .before)) .read)
-
-filters-test : (c : tie.After-table-fine) → let s = store (one (c .before .before .before .before .before .before)) in c .table-fine .result ≡ tableFine true (rulesOf s) (filtersUsed s) (filterPart s)
+filters-test : (c : tie.After-table-fine) → let s = store (one (c .before .before .before .before)) in c .table-fine .result ≡ tableFine true (rulesOf s) (filtersUsed s) (filterPart s)
 filters-test c =
     let d = c .before .before in
-    let e = d .before .before .before .before in
-    filters-told (store (one e)) (rules-counted (d .before .before)) (d .before .number-at6 .ensures) (filters-begin (e .before .before .before)) (eqs-begin d) (c .table-fine .ensures)
+    let e = d .before .before in
+    filters-told (store (one e)) (text e .1) (d .before .number-at6 .ensures) (filters-begin (e .before .before .before .before .before)) (eqs-begin d) (c .table-fine .ensures)
 
 notes-begin : (c : tie.After-notes-at) → c .notes-at .result ≡ notesAt (counts (store (one (two (c .before .before)))))
 notes-begin c = c .notes-at .ensures ∙ ap notesAt (counted (one (two (c .before .before))) .read)
@@ -91,7 +81,7 @@ eqs-test : (c : tie.After-table-fine2) → let s = store (one (two (c .before .b
 eqs-test c =
     let d = c .before .before in
     let e = d .before .before in
-    eqs-told (store (one (two e))) (rules-counted (e .before .before .before .before .before)) (d .before .number-at7 .ensures) (eqs-begin (e .before .before .before)) (notes-begin d) (c .table-fine2 .ensures)
+    eqs-told (store (one (two e))) (text (two e) .1) (d .before .number-at7 .ensures) (eqs-begin (e .before .before .before)) (notes-begin d) (c .table-fine2 .ensures)
 
 notes-test : (c : tie.After-table-fine3) → let s = store (one (two (three (c .before .before .before)))) in c .table-fine3 .result ≡ tableFine false (suc sessionLimit) (notesUsed s) (notePart s)
 notes-test c =
@@ -99,17 +89,17 @@ notes-test c =
     let e = one (two (three d)) in
     notes-told (store e) (counted e .size) (c .before .before .number-at8 .ensures) (notes-begin (d .before .before .before)) (c .table-fine3 .ensures)
 
-passed : (c : tie.Else5) → Laid (store (one (two (three (c .before .before .before .before)))))
+passed : (c : tie.Else4) → Laid (store (one (two (three (c .before .before .before .before)))))
 passed c =
     let d = c .before .before .before .before in
     let h = counted (one (two (three d))) in
     record {
       fits = h .fits;
       size = h .size;
-      text = text-holds (two (three d));
-      filters = sym (filters-test (three d .before)) ∙ not-false _ (three d .if3 .left);
-      eqs = sym (eqs-test (d .before)) ∙ not-false _ (d .if4 .left);
-      notes = sym (notes-test (c .before)) ∙ not-false _ (c .if5 .left);
+      text = text (two (three d)) .0;
+      filters = sym (filters-test (three d .before)) ∙ not-false _ (three d .if2 .left);
+      eqs = sym (eqs-test (d .before)) ∙ not-false _ (d .if3 .left);
+      notes = sym (notes-test (c .before)) ∙ not-false _ (c .if4 .left);
     }
 
 -- ---- the needs
@@ -156,37 +146,31 @@ number-at-requires-5 c κs = search needs
 filters-at-requires : tie.Need-filters-at-requires
 filters-at-requires c κs = search needs
 
-sub-text-fine : tie.Need-sub-text-fine
-sub-text-fine c = omega (arith, filters-begin c, in-bounds (c .before .before))
+sub-text-rules : tie.Need-sub-text-rules
+sub-text-rules c = omega (arith, filters-begin c, in-bounds (c .before .before))
 
-part-text-fine-start : tie.Need-part-text-fine-start
-part-text-fine-start c = omega (arith, filters-begin c, in-bounds (c .before .before))
+part-text-rules-start : tie.Need-part-text-rules-start
+part-text-rules-start c = omega (arith, filters-begin c, in-bounds (c .before .before))
 
-part-text-fine-end : tie.Need-part-text-fine-end
-part-text-fine-end c = omega (arith, filters-begin c, in-bounds (c .before .before))
+part-text-rules-end : tie.Need-part-text-rules-end
+part-text-rules-end c = omega (arith, filters-begin c, in-bounds (c .before .before))
 
-text-fine-requires : tie.Need-text-fine-requires
-text-fine-requires c κs = search needs
+text-rules-requires : tie.Need-text-rules-requires
+text-rules-requires c κs = search needs
+
+enum-known-counted : tie.Need-enum-known-counted
+enum-known-counted c = search needs
+
+enum-told-2 : tie.Need-enum-told-2
+enum-told-2 c = search needs
 
 returns-3 : tie.Need-returns-3
 returns-3 c =
-    let d = c .before .before .before .before .before in
-    shape-not (store d) (bytes d) (λ l. true≢false (sym (l .text) ∙ (sym (text-test (c .before)) ∙ not-true _ (c .if2 .taken))))
-
-add-text-end : tie.Need-add-text-end
-add-text-end c = omega (arith, text-within c)
-
-sub-count-lines : tie.Need-sub-count-lines
-sub-count-lines c = search needs
-
-part-count-lines-start : tie.Need-part-count-lines-start
-part-count-lines-start c = search needs
-
-part-count-lines-end : tie.Need-part-count-lines-end
-part-count-lines-end c = omega (arith, text-within c)
-
-count-lines-requires : tie.Need-count-lines-requires
-count-lines-requires c κs = search needs
+    let r = c .before .before in
+    let f = r .before .before in
+    let d = f .before .before in
+    let malformed = text-told (store d) (f .before .number-at5 .ensures) (filters-begin f) (r .text-rules .ensures) (c .enum-told2 .given .1) in
+    shape-not (store d) (bytes d) (λ l. true≢false (sym (l .text) ∙ malformed))
 
 number-at-requires-6 : tie.Need-number-at-requires-6
 number-at-requires-6 c κs = search needs
@@ -195,21 +179,21 @@ eqs-at-requires : tie.Need-eqs-at-requires
 eqs-at-requires c κs = search needs
 
 sub-table-fine : tie.Need-sub-table-fine
-sub-table-fine c = let d = c .before .before .before .before in omega (arith, filters-begin (d .before .before .before), eqs-begin c, in-bounds (one d))
+sub-table-fine c = let d = c .before .before in omega (arith, filters-begin (d .before .before .before .before .before), eqs-begin c, in-bounds (one d))
 
 part-table-fine-start : tie.Need-part-table-fine-start
-part-table-fine-start c = let d = c .before .before .before .before in omega (arith, filters-begin (d .before .before .before), eqs-begin c, in-bounds (one d))
+part-table-fine-start c = let d = c .before .before in omega (arith, filters-begin (d .before .before .before .before .before), eqs-begin c, in-bounds (one d))
 
 part-table-fine-end : tie.Need-part-table-fine-end
-part-table-fine-end c = let d = c .before .before .before .before in omega (arith, filters-begin (d .before .before .before), eqs-begin c, in-bounds (one d))
+part-table-fine-end c = let d = c .before .before in omega (arith, filters-begin (d .before .before .before .before .before), eqs-begin c, in-bounds (one d))
 
 table-fine-requires : tie.Need-table-fine-requires
 table-fine-requires c κs = search needs
 
 returns-4 : tie.Need-returns-4
 returns-4 c =
-    let d = one (c .before .before .before .before .before .before .before) in
-    shape-not (store d) (bytes d) (λ l. true≢false (sym (l .filters) ∙ (sym (filters-test (c .before)) ∙ not-true _ (c .if3 .taken))))
+    let d = one (c .before .before .before .before .before) in
+    shape-not (store d) (bytes d) (λ l. true≢false (sym (l .filters) ∙ (sym (filters-test (c .before)) ∙ not-true _ (c .if2 .taken))))
 
 number-at-requires-7 : tie.Need-number-at-requires-7
 number-at-requires-7 c κs = search needs
@@ -232,7 +216,7 @@ table-fine-requires-2 c κs = search needs
 returns-5 : tie.Need-returns-5
 returns-5 c =
     let d = one (two (c .before .before .before .before .before)) in
-    shape-not (store d) (bytes d) (λ l. true≢false (sym (l .eqs) ∙ (sym (eqs-test (c .before)) ∙ not-true _ (c .if4 .taken))))
+    shape-not (store d) (bytes d) (λ l. true≢false (sym (l .eqs) ∙ (sym (eqs-test (c .before)) ∙ not-true _ (c .if3 .taken))))
 
 number-at-requires-8 : tie.Need-number-at-requires-8
 number-at-requires-8 c κs = search needs
@@ -252,7 +236,7 @@ table-fine-requires-3 c κs = search needs
 returns-6 : tie.Need-returns-6
 returns-6 c =
     let d = one (two (three (c .before .before .before .before))) in
-    shape-not (store d) (bytes d) (λ l. true≢false (sym (l .notes) ∙ (sym (notes-test (c .before)) ∙ not-true _ (c .if5 .taken))))
+    shape-not (store d) (bytes d) (λ l. true≢false (sym (l .notes) ∙ (sym (notes-test (c .before)) ∙ not-true _ (c .if4 .taken))))
 
 returns-7 : tie.Need-returns-7
 returns-7 c =
@@ -260,7 +244,7 @@ returns-7 c =
     let e = three f in
     let t = two e in
     let d = one t in
-    shape-is (store d) (bytes d) (passed c) (counted d .read) (t .before .before .before .before .number-at5 .ensures) (e .before .before .before .before .number-at6 .ensures) (f .before .before .before .before .number-at7 .ensures) (c .before .before .before .number-at8 .ensures)
+    shape-is (store d) (bytes d) (passed c) (counted d .read) (t .before .before .before .before .before .before .number-at5 .ensures) (e .before .before .before .before .number-at6 .ensures) (f .before .before .before .before .number-at7 .ensures) (c .before .before .before .number-at8 .ensures)
 
 pub shape-spec : {M : Type 1} → statement M
 shape-spec =
@@ -278,16 +262,13 @@ shape-spec =
     returns-2
     number-at-requires-5
     filters-at-requires
-    sub-text-fine
-    part-text-fine-start
-    part-text-fine-end
-    text-fine-requires
+    sub-text-rules
+    part-text-rules-start
+    part-text-rules-end
+    text-rules-requires
+    enum-known-counted
+    enum-told-2
     returns-3
-    add-text-end
-    sub-count-lines
-    part-count-lines-start
-    part-count-lines-end
-    count-lines-requires
     number-at-requires-6
     eqs-at-requires
     sub-table-fine
