@@ -10,14 +10,14 @@ use native.Mathlib.Omega.{arith}
 use borrow.Author.Tests.{eqb-true, le-leb, lt-leb, leb-true, leb-false}
 use lib.Dec.{eqb, leb}
 use lib.ListN.{length, take, drop, getD, set, replicate, length-drop, length-replicate, getD-replicate, drop-of-length-le, List·getD-eq-default}
-use lib.Seq.{paste, paste-zero, paste-suc, drop-paste, drop-cons, getD-drop, take-all, sets-eq}
+use lib.Seq.{paste, paste-zero, paste-suc, drop-paste, drop-cons, drop-drop, getD-drop, take-all, sets-eq}
 use Rattle.text.specs.Text.{pasted}
 use Rattle.text.proofs.Laws.{and-split, pasted-fits}
 use Rattle.table.specs.Bytes.{u16, number, zeros, cleared, rowAt, restored}
 
 -- ---- zero bytes
 
--- the step of the loop of `all_zero`, where `front` says it of the bytes before `i`, and its end
+-- the step of the loop of `zero_part`, where `front` says it of the bytes before `i`, and its end
 pub zeros-step : (front : Bool) (s : List ℕ) (i : ℕ) → i < length s
     → (front && eqb (getD s i 0) 0 && zeros (drop (i + 1) s)) ≡ (front && zeros (drop i s))
 unfolding zeros
@@ -26,6 +26,30 @@ zeros-step front s i h = rw (add-one, drop-cons s i 0) (and-assoc front (eqb (ge
 pub zeros-end : (s : List ℕ) (i : ℕ) → length s ≤ i → zeros (drop i s) ≡ true
 unfolding zeros
 zeros-end s i h = rw (drop-of-length-le s h)
+
+-- a front and the rest
+pub zeros-split : (n : ℕ) (s : List ℕ) → zeros s ≡ (zeros (take n s) && zeros (drop n s))
+unfolding zeros
+zeros-split zero s = refl
+zeros-split (suc n) [] = refl
+zeros-split (suc n) (b ∷ s) = ap (λ (r : Bool). eqb b 0 && r) (zeros-split n s) ∙ sym (and-assoc (eqb b 0) (zeros (take n s)) (zeros (drop n s)))
+
+-- so the bytes from an earlier place on tell as much
+pub zeros-overlap : (front : Bool) (s : List ℕ) (j i : ℕ) → j ≤ i → (front && zeros (drop i s)) ≡ zeros s → (front && zeros (drop j s)) ≡ zeros s
+zeros-overlap front s j i h e = at (zeros (drop j s)) refl
+  where
+    at : (b : Bool) → zeros (drop j s) ≡ b → (front && b) ≡ zeros s
+    at true k =
+        let same : j + (i - j) ≡ i = omega arith in
+        let later = and-split (zeros (take (i - j) (drop j s))) _ (sym (zeros-split (i - j) (drop j s)) ∙ k) .1 in
+        rw (rw (drop-drop, same) at later) at e
+    at false k = and-false front ∙ sym (zeros-split j s ∙ (ap (λ (b : Bool). zeros (take j s) && b) k ∙ and-false (zeros (take j s))))
+
+-- a stretch of the bytes
+pub zeros-stretch : (front : Bool) (s : List ℕ) (i n : ℕ) → (front && zeros (take n (drop i s)) && zeros (drop (i + n) s)) ≡ (front && zeros (drop i s))
+zeros-stretch front s i n =
+    and-assoc front (zeros (take n (drop i s))) (zeros (drop (i + n) s))
+    ∙ ap (λ (r : Bool). front && r) (ap (λ (t : List ℕ). zeros (take n (drop i s)) && zeros t) (sym (drop-drop n i s)) ∙ sym (zeros-split n (drop i s)))
 
 -- zero bytes are a run of zeros
 pub zeros-replicate : (n : ℕ) → zeros (replicate n 0) ≡ true

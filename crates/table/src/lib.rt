@@ -8,6 +8,11 @@ ghost use Rattle.text.specs.Text.{same as same_text, pasted};
 ghost use Rattle.table.specs.Table.{distinct as distinct_rows};
 ghost use Rattle.table.specs.Bytes as spec;
 
+// So many bytes are tested for zero at once; from half as many on, two parts that may overlap.
+const STRETCH: usize = 64;
+
+const HALF: usize = 32;
+
 // What `push` answers: the row was there, it was added, or there is no room for it.
 pub enum Pushed {
     Present,
@@ -45,17 +50,39 @@ pub fn put_number(bytes: &mut [u8], at: usize, n: u16)
     bytes[next] = (n / 256) as u8;
 }
 
-// Are all bytes zero? No way out of the loop, so that it is done on many bytes at once.
-pub fn all_zero(bytes: &[u8]) -> bool
-    ensures { λ r. ⌜ r ≡ spec.zeros (now (bytes .entry)) ⌝ }
+// Are the `n` bytes from `at` on zero? No way out of the loop, so that it is done on many bytes at once.
+fn zero_part(bytes: &[u8], at: usize, n: usize) -> bool
+    requires { ⌜ at + n ≤ length (now bytes) ⌝ }
+    ensures { λ r. ⌜ r ≡ spec.zeros (take n (drop at (now (bytes .entry)))) ⌝ }
 {
     let mut zero = true;
     let mut i = 0;
-    while i < bytes.len() {
-        zero = zero & (bytes[i] == 0);
+    while i < n {
+        zero = zero & (bytes[at + i] == 0);
         i += 1;
     }
     zero
+}
+
+// Are all bytes zero? By stretches, of which the last may overlap the one before it.
+pub fn all_zero(bytes: &[u8]) -> bool
+    ensures { λ r. ⌜ r ≡ spec.zeros (now (bytes .entry)) ⌝ }
+{
+    let n = bytes.len();
+    if n < HALF {
+        return zero_part(bytes, 0, n);
+    }
+    if n < STRETCH {
+        return zero_part(bytes, 0, HALF) & zero_part(bytes, n - HALF, HALF);
+    }
+    let last = n - STRETCH;
+    let mut zero = true;
+    let mut i = 0;
+    while i < last {
+        zero = zero & zero_part(bytes, i, STRETCH);
+        i += STRETCH;
+    }
+    zero & zero_part(bytes, last, STRETCH)
 }
 
 // Sets the bytes from `from` to before `to` to zero, where the buffer has them; else nothing.
