@@ -17,7 +17,7 @@ use Rattle.text.proofs.Laws.{times, times-fit, replace-length, length-told, too
 use Rattle.json.specs.Strings.{Decoded}
 use Rattle.rule.proofs.DecodeLaws.{written-length}
 use Rattle.rule.specs.Fill.{orNothing, fill}
-use Rattle.rule.specs.Places.{fillable, filling, filledInto, fillingAt, filledAt}
+use Rattle.rule.specs.Places.{fillable, filling, fillingOf, filledInto, fillingAt, filledAt}
 use Rattle.rule.specs.declared.Filling.{Filling}
 use Rattle.rule.specs.declared.Filling.the-variants.{Length as FilledTo, TooLong as FilledOver}
 
@@ -29,12 +29,9 @@ between-fits template id h k =
     let grown : times (ascii "%c") template * length id ≤ times (ascii "%c") template * 64 = mul-le-mul-left (times (ascii "%c") template) k in
     omega arith
 
--- the first pass, into a buffer of 8,192 bytes: it has room, and the front is the text between
-module _ (template id before : List ℕ) (h : length template ≤ 256) (k : length id ≤ 64) (size : length before ≡ 8192) {after : List ℕ} {answer : Replaced}
+-- the first pass, into a buffer where it has room: the front is the text between
+module _ (template id before : List ℕ) {after : List ℕ} {answer : Replaced}
     (told : answer ≡ fitted (replace (ascii "%c") id template) (length before)) (wrote : after ≡ written (replace (ascii "%c") id template) before) where
-  pub first-fits : answer ≡ TooLong → ⊥
-  first-fits e = let far = too-long-told (replace (ascii "%c") id template) (length before) told e in omega (arith, between-fits template id h k)
-
   pub first-room : {n : ℕ} → answer ≡ Length n → n ≤ length after
   first-room {n} e =
       let fits = length-told {n = n} (replace (ascii "%c") id template) (length before) told e in
@@ -44,6 +41,12 @@ module _ (template id before : List ℕ) (h : length template ≤ 256) (k : leng
   first-front {n} e =
       let fits = length-told {n = n} (replace (ascii "%c") id template) (length before) told e in
       rw (fits .0, wrote) (written-take (replace (ascii "%c") id template) before (omega arith))
+
+-- 8,192 bytes are room
+pub first-fits : (template id before : List ℕ) {answer : Replaced} → length template ≤ 256 → length id ≤ 64 → length before ≡ 8192
+    → answer ≡ fitted (replace (ascii "%c") id template) (length before) → answer ≡ TooLong → ⊥
+first-fits template id before h k size told e =
+    let far = too-long-told (replace (ascii "%c") id template) (length before) told e in omega (arith, between-fits template id h k)
 
 pub fillable-fits : (template id : List ℕ) → length template ≤ 256 → length id ≤ 64 → fillable template id ≡ true
 unfolding fillable
@@ -66,30 +69,34 @@ pub not-filled : (buffer template id : List ℕ) (name : Option (List ℕ)) → 
 unfolding filling filledInto
 not-filled buffer template id name e = (rw e, rw e)
 
--- the two passes
-module _ (buffer template id : List ℕ) (name : Option (List ℕ)) (h : length template ≤ 256) (k : length id ≤ 64)
-    {between names after : List ℕ} {answer : Replaced}
-    (first : between ≡ replace (ascii "%c") id template) (named : names ≡ orNothing name)
+-- the second pass
+module _ (buffer between : List ℕ) (name : Option (List ℕ)) {names after : List ℕ} {answer : Replaced} (named : names ≡ orNothing name)
     (told : answer ≡ fitted (replace (ascii "%u") names between) (length buffer)) (wrote : after ≡ written (replace (ascii "%u") names between) buffer) where
-  second : replace (ascii "%u") names between ≡ fill template id name
-  second = unfold fill in rw (first, named)
+  named-over : answer ≡ TooLong → FilledOver ≡ fillingOf (length buffer) (replace (ascii "%u") names between)
+  unfolding fillingOf
+  named-over e = let far = too-long-told (replace (ascii "%u") names between) (length buffer) told e in rw (lt-leb (length (replace (ascii "%u") names between)) (length buffer) far)
 
-  pub filled-over : answer ≡ TooLong → Filled buffer after template id name FilledOver
-  unfolding filling filledInto
-  filled-over e =
-      let far = too-long-told (replace (ascii "%u") names between) (length buffer) told e in
-      let over : leb (length (fill template id name)) (length buffer) ≡ false = lt-leb (length (fill template id name)) (length buffer) (rw (sym second) far) in
-      let whole : after ≡ written (fill template id name) buffer = wrote ∙ ap (λ (t : List ℕ). written t buffer) second in
-      (rw (fillable-fits template id h k, over), rw (fillable-fits template id h k) whole)
+  named-to : {n : ℕ} → answer ≡ Length n → FilledTo n ≡ fillingOf (length buffer) (replace (ascii "%u") names between)
+  unfolding fillingOf
+  named-to {n} e =
+      let fits = length-told {n = n} (replace (ascii "%u") names between) (length buffer) told e in
+      rw (le-leb (length (replace (ascii "%u") names between)) (length buffer) (rw (fits .0) at (fits .1))) (ap FilledTo (fits .0))
 
-  pub filled-to : {n : ℕ} → answer ≡ Length n → Filled buffer after template id name (FilledTo n)
-  unfolding filling filledInto
-  filled-to {n} e =
-      let fits = length-told (replace (ascii "%u") names between) (length buffer) told e in
-      let long : n ≡ length (fill template id name) = fits .0 ∙ ap length second in
-      let within : leb (length (fill template id name)) (length buffer) ≡ true = le-leb (length (fill template id name)) (length buffer) (rw (sym long) (fits .1)) in
-      let whole : after ≡ written (fill template id name) buffer = wrote ∙ ap (λ (t : List ℕ). written t buffer) second in
-      (rw (fillable-fits template id h k, within, long), rw (fillable-fits template id h k) whole)
+  pub name-over : answer ≡ TooLong
+      → (FilledOver ≡ fillingOf (length buffer) (replace (ascii "%u") (orNothing name) between)) × (after ≡ written (replace (ascii "%u") (orNothing name) between) buffer)
+  name-over e = (rw named at (named-over e), rw named at wrote)
+
+  pub name-to : {n : ℕ} → answer ≡ Length n
+      → (FilledTo n ≡ fillingOf (length buffer) (replace (ascii "%u") (orNothing name) between)) × (after ≡ written (replace (ascii "%u") (orNothing name) between) buffer)
+  name-to e = (rw named at (named-to e), rw named at wrote)
+
+-- the two passes
+pub filled-by : (buffer template id : List ℕ) (name : Option (List ℕ)) {between after : List ℕ} {answer : Filling} → length template ≤ 256 → length id ≤ 64
+    → between ≡ replace (ascii "%c") id template → answer ≡ fillingOf (length buffer) (replace (ascii "%u") (orNothing name) between)
+    → after ≡ written (replace (ascii "%u") (orNothing name) between) buffer → Filled buffer after template id name answer
+unfolding filling filledInto fillingOf fill
+filled-by buffer template id name h k first told wrote =
+    (rw (fillable-fits template id h k) (rw first at told), rw (fillable-fits template id h k) (rw first at wrote))
 
 -- at a place of the line
 pub filled-here : (buffer after id : List ℕ) (name : Option (List ℕ)) (o : Option Decoded) {d : Decoded} {t : List ℕ} {answer : Filling}

@@ -230,6 +230,10 @@ faultyLine lines cause line = cond (ltb linesLimit lines) (RulesFaulty TooLong (
 unfoldable pub fillable : List ℕ → List ℕ → Bool
 fillable template id = leb (length template) textLimit && leb (length id) idLimit
 
+-- what a filled text answers for a buffer of `room` bytes
+unfoldable pub fillingOf : ℕ → List ℕ → Filling
+fillingOf room t = cond (leb (length t) room) (FilledTo (length t)) FilledOver
+
 unfoldable pub filling : ℕ → List ℕ → List ℕ → Option (List ℕ) → Filling
 filling room template id name =
     let t = fill template id name in cond (fillable template id && leb (length t) room) (FilledTo (length t)) FilledOver

@@ -8,8 +8,12 @@ use json::strings::decode;
 use text::Replaced;
 ghost use mathlib.Core.Path.{_≡_};
 ghost use mathlib.Core.Bool.{cond};
+ghost use Prim.Native.Nat.{_≤_};
 ghost use lib.ListN.{length};
+ghost use Rattle.text.specs.Ascii.{ascii};
+ghost use Rattle.text.specs.Text.{replace, written};
 ghost use Rattle.json.specs.Strings.{stringAt};
+ghost use Rattle.rule.specs.Limits.{textLimit, idLimit};
 ghost use Rattle.rule.specs.Fill as rule;
 ghost use Rattle.rule.specs.Places as spec;
 
@@ -31,6 +35,30 @@ fn name_or_nothing(name: Given, names: &[u8]) -> &[u8]
     }
 }
 
+// The second pass, over the text with the client id filled in.
+fn fill_name(between: &[u8], name: Given, names: &[u8], buffer: &mut [u8]) -> Filling
+    ensures { λ r. ⌜ r ≡ spec.fillingOf (length (now (buffer .entry))) (replace (ascii "%u") (rule.orNothing (spec.given name (now (names .entry)))) (now (between .entry))) ⌝ }
+    ensures { λ r. ⌜ now (buffer .exit) ≡ written (replace (ascii "%u") (rule.orNothing (spec.given name (now (names .entry)))) (now (between .entry))) (now (buffer .entry)) ⌝ }
+{
+    match text::replace(between, b"%u", name_or_nothing(name, names), buffer) {
+        Replaced::TooLong => Filling::TooLong,
+        Replaced::Length(n) => Filling::Length(n),
+    }
+}
+
+// The two passes, with room for every text between them.
+fn fill_large(template: &[u8], id: &[u8], name: Given, names: &[u8], buffer: &mut [u8]) -> Filling
+    requires { ⌜ (length (now template) ≤ textLimit) × (length (now id) ≤ idLimit) ⌝ }
+    ensures { λ r. ⌜ r ≡ spec.filling (length (now (buffer .entry))) (now (template .entry)) (now (id .entry)) (spec.given name (now (names .entry))) ⌝ }
+    ensures { λ r. ⌜ now (buffer .exit) ≡ spec.filledInto (now (buffer .entry)) (now (template .entry)) (now (id .entry)) (spec.given name (now (names .entry))) ⌝ }
+{
+    let mut between = [0u8; BETWEEN];
+    match text::replace(template, b"%c", id, &mut between) {
+        Replaced::TooLong => Filling::TooLong,
+        Replaced::Length(n) => fill_name(&between[..n], name, names, buffer),
+    }
+}
+
 // The template filled into the front of the buffer. Where the result is longer than the buffer, the template over 256 bytes or the
 // id over 64, the buffer is unchanged.
 pub fn fill_text(
@@ -49,18 +77,11 @@ pub fn fill_text(
     if ID < id.len() {
         return Filling::TooLong;
     }
-    let mut between = [0u8; BETWEEN];
+    // To zero the large buffer costs more than most fillings.
+    let mut between = [0u8; TEXT];
     match text::replace(template, b"%c", id, &mut between) {
-        Replaced::TooLong => Filling::TooLong,
-        Replaced::Length(n) => match text::replace(
-            &between[..n],
-            b"%u",
-            name_or_nothing(name, names),
-            buffer,
-        ) {
-            Replaced::TooLong => Filling::TooLong,
-            Replaced::Length(m) => Filling::Length(m),
-        },
+        Replaced::TooLong => fill_large(template, id, name, names, buffer),
+        Replaced::Length(n) => fill_name(&between[..n], name, names, buffer),
     }
 }
 
