@@ -14,7 +14,7 @@ use Rattle.text.specs.Text.{same}
 use Rattle.text.proofs.Laws.{and-split, or-split}
 use Rattle.table.specs.Table.{some-row, distinct}
 use Rattle.table.specs.Bytes.{u16, number, zeros, rows}
-use Rattle.table.proofs.TableLaws.{Equals, Sound, some-map, none as none-rows, none-at, distinct-map}
+use Rattle.table.proofs.TableLaws.{Equals, texts, Sound, some-map, none as none-rows, none-at, distinct-map}
 use Rattle.table.proofs.ByteLaws.{zeros-true, zeros-replicate}
 use Rattle.table.proofs.JoinLaws.{Bytes, bytes-drop, rows-count, rows-joined, row-sized, row-bytes, u16-number}
 use Rattle.topic.specs.Topic.{validFilter}
@@ -23,7 +23,7 @@ use Rattle.store.specs.Store.{sessionLimit, over, FilterRow, ownerless}
 use Rattle.store.specs.Layout.{pad, Codec, field, filterText, filterOwner, filterCodec, numberedText, numberedCodec, eqCodec, noteCodec, putAll, getAll, area}
 use Rattle.store.specs.View.{rules, badEq, badFilter, badNote}
 use Rattle.store.specs.Check.{padded, filterFine, numberedFine}
-use Rattle.store.proofs.LayoutLaws.{texts, Reads, numbered-reads, filter-reads, good-filter, pad-length, pad-take, pad-drop, area-length, area-rows, area-unused}
+use Rattle.store.proofs.LayoutLaws.{Reads, numbered-reads, filter-reads, good-filter, pad-length, pad-take, pad-drop, area-length, area-rows, area-unused}
 
 -- bytes of which all behind the first `n` are zero are these, padded
 pub pad-again : (width n : ℕ) (part : List ℕ) → length part ≡ width → n ≤ width → zeros (drop n part) ≡ true → pad width (take n part) ≡ part

@@ -9,11 +9,10 @@ use borrow.Author.Tests.{eqb-true, eq-eqb, ltb-false, leb-true, le-leb}
 use lib.Dec.{eqb, leb, ltb}
 use lib.ListN.{length, take, drop, replicate, length-append, length-replicate, length-map}
 use lib.Seq.{take-append-seam, take-at, drop-at, drop-drop, take-all}
-use Rattle.text.specs.Text.{same}
-use Rattle.text.proofs.Laws.{and-split, or-split, same-true, same-itself}
+use Rattle.text.proofs.Laws.{and-split, or-split}
 use Rattle.table.specs.Table.{some-row}
 use Rattle.table.specs.Bytes.{u16, number, rows}
-use Rattle.table.proofs.TableLaws.{Equals, Sound, sound-parts, sound-made, none-at, none-of}
+use Rattle.table.proofs.TableLaws.{Equals, texts, Sound, sound-parts, sound-made, none-at, none-of}
 use Rattle.table.proofs.JoinLaws.{Sized, joined-length, joined-rows}
 use Rattle.rule.specs.Limits.{textLimit, idLimit}
 use Rattle.rule.specs.RuleText.{textFault}
@@ -23,9 +22,6 @@ use Rattle.store.specs.Layout.{pad, Codec, field, filterText, filterOwne
 use Rattle.store.specs.View.{faultless, openable, rules, badEq, badFilter, badNote, wellFormed}
 
 -- ---- the tests of rows are equality
-
-pub texts : Equals same
-texts = record { agree = same-true; itself = same-itself }
 
 numbers : Equals eqb
 numbers = record { agree = eqb-true; itself = λ n. eq-eqb n n refl }

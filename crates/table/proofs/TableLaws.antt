@@ -10,7 +10,8 @@ use native.Mathlib.Omega.{arith}
 use borrow.Author.Tests.{leb-true, le-leb, not-true, not-false}
 use lib.Dec.{leb}
 use lib.ListN.{length, length-append}
-use Rattle.text.proofs.Laws.{both-true, isnt, and-split, or-split}
+use Rattle.text.specs.Text.{same as same-text}
+use Rattle.text.proofs.Laws.{both-true, isnt, and-split, or-split, same-true, same-itself}
 use Rattle.table.specs.Table.{some-row, keep, add, add-all, Change, adds, drops, change, distinct, sound}
 
 or-left-comm : (a b c : Bool) → (a || (b || c)) ≡ (b || (a || c))
@@ -135,10 +136,13 @@ pub record Equals {Row : Type 0} (same : Row → Row → Bool) : Type 0 where
   pub agree : (a b : Row) → same a b ≡ true → a ≡ b
   pub itself : (a : Row) → same a a ≡ true
 
+pub texts : Equals same-text
+texts = record { agree = same-true; itself = same-itself }
+
 module _ {Row : Type 0} {same : Row → Row → Bool} (E : Equals same) where
   open Equals E using (agree, itself)
 
-  member : (r : Row) (rows : List Row) → some-row (same r) rows ≡ true → List·Memᴰ r rows
+  pub member : (r : Row) (rows : List Row) → some-row (same r) rows ≡ true → List·Memᴰ r rows
   unfolding some-row
   member r [] e = absurd (true≢false (sym e))
   member r (t ∷ rows) e = at (same r t) refl e (member r rows)

@@ -1,5 +1,10 @@
 // Tables of rows as bytes (document 01, Store). A table is a stretch of the store that is lent on as a part of its own; its rows are
 // the part's whole rows of one size, the used ones first. Nothing here knows what a row says.
+mod sorting;
+
+use crate::sorting::pairwise;
+use crate::sorting::sorted_few;
+use crate::sorting::sorted_many;
 ghost use mathlib.Core.Path.{_≡_};
 ghost use mathlib.Core.List.{_++_};
 ghost use Prim.Native.Nat.{_+_, _≤_};
@@ -134,24 +139,26 @@ pub fn present(table: &[u8], used: usize, row: &[u8]) -> bool
     false
 }
 
-// "No two used rows of a table are equal."
+// "No two used rows of a table are equal." Up to 8 rows are compared each with all behind it, in less time than it takes to sort them.
 pub fn distinct(table: &[u8], size: usize, used: usize) -> bool
     ensures { λ r. ⌜ r ≡ distinct_rows same_text (spec.rows size used (now (table .entry))) ⌝ }
 {
-    let mut at = 0;
-    let mut i = 0;
-    while i < used {
-        if table.len() - at < size {
-            return true;
-        }
-        let next = at + size;
-        i += 1;
-        if present(&table[next..], used - i, &table[at..next]) {
-            return false;
-        }
-        at = next;
+    if used <= 8 {
+        return pairwise(table, size, used);
     }
-    true
+    if size == 0 {
+        return pairwise(table, size, used);
+    }
+    if table.len() / size < used {
+        return pairwise(table, size, used);
+    }
+    if used <= 64 {
+        return sorted_few(table, size, used);
+    }
+    if used <= 4096 {
+        return sorted_many(table, size, used);
+    }
+    pairwise(table, size, used)
 }
 
 // Adds a row behind the used ones, unless it is present or there is no room for it.
