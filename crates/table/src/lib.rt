@@ -1,10 +1,12 @@
 // Tables of rows as bytes (document 01, Store). A table is a stretch of the store that is lent on as a part of its own; its rows are
 // the part's whole rows of one size, the used ones first. Nothing here knows what a row says.
 mod sorting;
+mod words;
 
 use crate::sorting::pairwise;
 use crate::sorting::sorted_few;
 use crate::sorting::sorted_many;
+use crate::words::same_row;
 ghost use mathlib.Core.Path.{_≡_};
 ghost use mathlib.Core.List.{_++_};
 ghost use Prim.Native.Nat.{_+_, _≤_};
@@ -130,7 +132,7 @@ pub fn present(table: &[u8], used: usize, row: &[u8]) -> bool
             return false;
         }
         let next = at + row.len();
-        if text::same(row, &table[at..next]) {
+        if same_row(row, &table[at..next]) {
             return true;
         }
         at = next;
@@ -139,11 +141,11 @@ pub fn present(table: &[u8], used: usize, row: &[u8]) -> bool
     false
 }
 
-// "No two used rows of a table are equal." Up to 8 rows are compared each with all behind it, in less time than it takes to sort them.
+// "No two used rows of a table are equal." Up to 16 rows are compared each with all behind it, in less time than it takes to sort them.
 pub fn distinct(table: &[u8], size: usize, used: usize) -> bool
     ensures { λ r. ⌜ r ≡ distinct_rows same_text (spec.rows size used (now (table .entry))) ⌝ }
 {
-    if used <= 8 {
+    if used <= 16 {
         return pairwise(table, size, used);
     }
     if size == 0 {

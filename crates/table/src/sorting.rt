@@ -2,6 +2,8 @@
 // has to come before the next one in a strict order. That last step alone decides, and it is proved to: of the sort nothing is promised
 // but that it ends, and where it had not sorted, the rows would be compared each with all behind it. `distinct` alone calls this.
 use crate::present;
+use crate::words::before;
+use crate::words::same_row;
 ghost use mathlib.Core.Path.{_≡_};
 ghost use mathlib.Core.Bool.{true, false};
 ghost use Prim.Native.Nat.{_+_, _*_, _<_, _≤_};
@@ -29,53 +31,6 @@ pub(crate) fn pairwise(table: &[u8], size: usize, used: usize) -> bool
         at = next;
     }
     true
-}
-
-// Two, four and eight bytes as a number, the low one first: one load each.
-fn two(s: &[u8], at: usize) -> u64
-    requires { ⌜ at + 2 ≤ length (now s) ⌝ }
-    ensures { λ r. ⌜ (r ≡ spec.two at (now (s .entry))) × (r < 65536) ⌝ }
-{
-    s[at + 1] as u64 * 256 + s[at] as u64
-}
-
-fn four(s: &[u8], at: usize) -> u64
-    requires { ⌜ at + 4 ≤ length (now s) ⌝ }
-    ensures { λ r. ⌜ (r ≡ spec.four at (now (s .entry))) × (r < 4294967296) ⌝ }
-{
-    two(s, at + 2) * 65536 + two(s, at)
-}
-
-fn eight(s: &[u8], at: usize) -> u64
-    requires { ⌜ at + 8 ≤ length (now s) ⌝ }
-    ensures { λ r. ⌜ r ≡ spec.eight at (now (s .entry)) ⌝ }
-{
-    four(s, at + 4) * 4294967296 + four(s, at)
-}
-
-// Does the first row come before the second? Where it says no, they may be equal, or too short to be told apart.
-fn before(a: &[u8], b: &[u8]) -> bool
-    ensures { λ r. ⌜ (r ≡ true → spec.Before (now (a .entry)) (now (b .entry))) ⌝ }
-{
-    let size = a.len();
-    if size < 8 {
-        return false;
-    }
-    if b.len() != size {
-        return false;
-    }
-    let words = size / 8;
-    let mut i = 0;
-    while i < words {
-        let x = eight(a, i * 8);
-        let y = eight(b, i * 8);
-        if x != y {
-            return x < y;
-        }
-        i += 1;
-    }
-    let last = size - 8;
-    eight(a, last) < eight(b, last)
 }
 
 // The used row of a number, without a division to see that it is there.
@@ -117,7 +72,7 @@ fn row_again(table: &[u8], size: usize, used: usize, i: usize, j: usize) -> bool
     if used <= j {
         return false;
     }
-    text::same(row(table, size, used, i), row(table, size, used, j))
+    same_row(row(table, size, used, i), row(table, size, used, j))
 }
 
 fn wide(n: u16) -> usize

@@ -33,24 +33,24 @@ returns c =
 add-next : tie.Need-add-next Inv-loop μ-loop
 add-next c = omega arith
 
-sub-same : tie.Need-sub-same Inv-loop μ-loop
-sub-same c = search needs
+sub-same-row : tie.Need-sub-same-row Inv-loop μ-loop
+sub-same-row c = search needs
 
-part-same-start : tie.Need-part-same-start Inv-loop μ-loop
-part-same-start c = search needs
+part-same-row-start : tie.Need-part-same-row-start Inv-loop μ-loop
+part-same-row-start c = search needs
 
-part-same-end : tie.Need-part-same-end Inv-loop μ-loop
-part-same-end c = search needs
+part-same-row-end : tie.Need-part-same-row-end Inv-loop μ-loop
+part-same-row-end c = search needs
 
-same-requires : tie.Need-same-requires Inv-loop μ-loop
-same-requires c κs = search needs
+same-row-requires : tie.Need-same-row-requires Inv-loop μ-loop
+same-row-requires c κs = search needs
 
 returns-2 : tie.Need-returns-2 Inv-loop μ-loop
 returns-2 c =
     let at-test = c .before .before .before .before in
     let at-loop = at-test .before .loop in
     let args = at-test .before .before .before .before .args in
-    let told = rw add-sub-cancel-left at (c .before .same .ensures) in
+    let told = rw add-sub-cancel-left at (c .before .same-row .ensures) in
     let here = present-here (now (args .row)) _ _ (at-loop .at) (now (args .table)) (at-test .loop-test .taken) (omega arith) in
     sym (at-loop .inv .1 ∙ here (sym told ∙ c .if2 .taken))
 
@@ -65,7 +65,7 @@ loop-again c =
     let at-test = c .before .before .before .before in
     let at-loop = at-test .before .loop in
     let args = at-test .before .before .before .before .args in
-    let told = rw add-sub-cancel-left at (c .before .same .ensures) in
+    let told = rw add-sub-cancel-left at (c .before .same-row .ensures) in
     let past = present-past (now (args .row)) _ _ (at-loop .at) (now (args .table)) (at-test .loop-test .taken) (omega arith) in
     (omega arith, at-loop .inv .1 ∙ past (sym told ∙ c .if2 .left))
 
@@ -82,10 +82,10 @@ present-spec =
     sub-if1
     returns
     add-next
-    sub-same
-    part-same-start
-    part-same-end
-    same-requires
+    sub-same-row
+    part-same-row-start
+    part-same-row-end
+    same-row-requires
     returns-2
     add-i
     loop-less

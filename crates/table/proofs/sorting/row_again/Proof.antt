@@ -23,12 +23,12 @@ row-requires c κs = search needs
 row-requires-2 : tie.Need-row-requires-2
 row-requires-2 c κs = search needs
 
-same-requires : tie.Need-same-requires
-same-requires c κs = search needs
+same-row-requires : tie.Need-same-row-requires
+same-row-requires c κs = search needs
 
 returns-4 : tie.Need-returns-4
 returns-4 c e =
-    let told = c .same .ensures in
+    let told = c .same-row .ensures in
     let first = c .before .before .row .ensures in
     let second = c .before .row2 .ensures in
     let args = c .before .before .before .before .before .before .before .args in
@@ -37,4 +37,4 @@ returns-4 c e =
 pub row-again-spec : {M : Type 1} → statement M
 row-again-spec =
     tie.close
-    (tie.spec returns returns-2 returns-3 row-requires row-requires-2 same-requires returns-4)
+    (tie.spec returns returns-2 returns-3 row-requires row-requires-2 same-row-requires returns-4)

@@ -1,11 +1,11 @@
--- `table::sorting::two` meets its contract: the two bytes are below 256 each. Assumes nothing.
+-- `table::words::two` meets its contract: the two bytes are below 256 each. Assumes nothing.
 use Prim.Native.Nat.{_+_}
 use mathlib.Core.Path.{refl}
 use native.Mathlib.Omega.{arith}
 use borrow.Author.Needs.{needs}
 use Rattle.table.specs.Order.{two}
-use Rattle.table.proofs.sorting.two.Statement.{statement}
-use Rattle.table.proofs.sorting.two.Tie as tie
+use Rattle.table.proofs.words.two.Statement.{statement}
+use Rattle.table.proofs.words.two.Tie as tie
 
 add-result : tie.Need-add-result
 add-result c = search needs

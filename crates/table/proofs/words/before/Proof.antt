@@ -1,4 +1,4 @@
--- `table::sorting::before` meets its contract. The loop's invariant: `i` is at most the number of whole words, the rows are
+-- `table::words::before` meets its contract. The loop's invariant: `i` is at most the number of whole words, the rows are
 -- equally long, and the words below `i` are alike. The measure is what is left of the whole words. Assumes nothing.
 use Prim.Native.Nat.{ℕ, _-_, _*_, _/_, _≤_, _<_}
 use mathlib.Core.Path.{_≡_, sym, ap, _∙_}
@@ -11,8 +11,8 @@ use denote.Ref.{now}
 use lib.ListN.{length}
 use Rattle.table.specs.Order.{eight, word}
 use Rattle.table.proofs.OrderLaws.{word-whole, word-last}
-use Rattle.table.proofs.sorting.before.Statement.{statement}
-use Rattle.table.proofs.sorting.before.Tie as tie
+use Rattle.table.proofs.words.before.Statement.{statement}
+use Rattle.table.proofs.words.before.Tie as tie
 
 abbrev Inv-loop : tie.InvT-loop
 Inv-loop a b size words i₀ i = (i ≤ length a / 8) × ((length a ≡ length b) × ((k : ℕ) → k < i → word k a ≡ word k b))

@@ -1,9 +1,9 @@
--- `table::sorting::eight` meets its contract: it is what its halves say. Assumes nothing.
+-- `table::words::eight` meets its contract: it is what its halves say. Assumes nothing.
 use native.Mathlib.Omega.{arith}
 use borrow.Author.Needs.{needs}
 use Rattle.table.specs.Order.{eight}
-use Rattle.table.proofs.sorting.eight.Statement.{statement}
-use Rattle.table.proofs.sorting.eight.Tie as tie
+use Rattle.table.proofs.words.eight.Statement.{statement}
+use Rattle.table.proofs.words.eight.Tie as tie
 
 add-four : tie.Need-add-four
 add-four c = search needs

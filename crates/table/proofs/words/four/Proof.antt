@@ -1,9 +1,9 @@
--- `table::sorting::four` meets its contract: it is what its halves say. Assumes nothing.
+-- `table::words::four` meets its contract: it is what its halves say. Assumes nothing.
 use native.Mathlib.Omega.{arith}
 use borrow.Author.Needs.{needs}
 use Rattle.table.specs.Order.{four}
-use Rattle.table.proofs.sorting.four.Statement.{statement}
-use Rattle.table.proofs.sorting.four.Tie as tie
+use Rattle.table.proofs.words.four.Statement.{statement}
+use Rattle.table.proofs.words.four.Tie as tie
 
 add-two : tie.Need-add-two
 add-two c = search needs
