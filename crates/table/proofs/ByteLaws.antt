@@ -9,7 +9,7 @@ use native.Mathlib.Numerals.{add-one}
 use native.Mathlib.Omega.{arith}
 use borrow.Author.Tests.{eqb-true, le-leb, lt-leb, leb-true, leb-false}
 use lib.Dec.{eqb, leb}
-use lib.ListN.{length, take, drop, getD, set, replicate, length-drop, length-replicate, getD-replicate, drop-of-length-le, List·getD-eq-default}
+use lib.ListN.{length, take, drop, getD, set, replicate, take-append-drop, length-drop, length-replicate, getD-replicate, drop-of-length-le, List·getD-eq-default}
 use lib.Seq.{paste, paste-zero, paste-suc, drop-paste, drop-cons, drop-drop, getD-drop, take-all, sets-eq}
 use Rattle.text.specs.Text.{pasted}
 use Rattle.text.proofs.Laws.{and-split, pasted-fits}
@@ -122,6 +122,10 @@ moved-byte s from to i h k =
     let place : from + i ≡ to + i + (from - to) = omega arith in
     let behind = drop-paste s to (drop from s) i (omega arith) (omega arith) in
     rw (getD-drop from s i 0, place, ← getD-drop (to + i) (paste s to (drop from s) i) (from - to) 0, behind) (getD-drop (to + i) s (from - to) 0)
+
+-- a row that is moved to where it is
+pub moved-here : (s : List ℕ) (at size : ℕ) → take at s ++ (take size (drop at s) ++ drop (at + size) s) ≡ s
+moved-here s at size = rw (← drop-drop size at s, take-append-drop size (drop at s)) (take-append-drop at s)
 
 -- the step of the loop of `move_row`
 pub moved-more : (s : List ℕ) (from to i : ℕ) → to ≤ from → from + i < length s

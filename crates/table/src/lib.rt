@@ -188,6 +188,9 @@ fn move_row(table: &mut [u8], from: usize, to: usize, size: usize)
     requires { ⌜ from + size ≤ length (now table) ⌝ }
     ensures { λ r. ⌜ now (table .exit) ≡ take to (now (table .entry)) ++ (take size (drop from (now (table .entry))) ++ drop (to + size) (now (table .entry))) ⌝ }
 {
+    if from == to {
+        return;
+    }
     let mut i = 0;
     while i < size {
         table[to + i] = table[from + i];

@@ -1,13 +1,13 @@
 -- `table::move_row` meets its contract. The loop's invariant: `i` is at most the size, and the table is what it was but that its bytes from `to` on
 -- are the first `i` of those that were from `from` on (`paste` of lib.Seq). The measure is what is left of the size. Assumes nothing.
 use Prim.Native.Nat.{_-_, _≤_}
-use mathlib.Core.Path.{_≡_, refl, _∙_}
+use mathlib.Core.Path.{_≡_, refl, sym, _∙_}
 use mathlib.Core.List.{append-assoc}
 use native.Mathlib.Omega.{arith}
 use denote.Ref.{now}
 use lib.ListN.{length, take, drop, length-set}
 use lib.Seq.{paste, paste-zero}
-use Rattle.table.proofs.ByteLaws.{moved-more}
+use Rattle.table.proofs.ByteLaws.{moved-here, moved-more}
 use Rattle.table.proofs.move_row.Statement.{statement}
 use Rattle.table.proofs.move_row.Tie as tie
 
@@ -17,8 +17,13 @@ Inv-loop table₀ from to size i₀ table i = (i ≤ size) × (length table ≡ 
 abbrev μ-loop : tie.MeasureT-loop
 μ-loop table₀ from to size i₀ table i = size - i
 
+returns : tie.Need-returns Inv-loop μ-loop
+returns c =
+    let args = c .before .args in
+    rw (c .if1 .taken) (sym (moved-here (now (args .table)) (args .to) (args .size)))
+
 loop-holds : tie.Need-loop-holds Inv-loop μ-loop
-loop-holds c = (omega arith, refl, paste-zero _ (c .args .to) (drop (c .args .from) (now (c .args .table))))
+loop-holds c = (omega arith, refl, paste-zero _ (c .before .args .to) (drop (c .before .args .from) (now (c .before .args .table))))
 
 add-table : tie.Need-add-table Inv-loop μ-loop
 add-table c = omega arith
@@ -40,7 +45,7 @@ loop-less c = omega arith
 
 loop-again : tie.Need-loop-again Inv-loop μ-loop
 loop-again c =
-    let args = c .before .before .before .args in
+    let args = c .before .before .before .before .args in
     let at-loop = c .before .before .loop in
     let step = moved-more (now (args .table)) (args .from) (args .to) (at-loop .i) (omega arith) (omega arith) in
     (omega arith, simp length-set (omega arith), rw (at-loop .inv .2) step)
@@ -48,9 +53,9 @@ loop-again c =
 same-length : tie.Need-same-length Inv-loop μ-loop
 same-length c = omega arith
 
-returns : tie.Need-returns Inv-loop μ-loop
-returns c =
-    let args = c .before .before .args in
+returns-2 : tie.Need-returns-2 Inv-loop μ-loop
+returns-2 c =
+    let args = c .before .before .before .args in
     let all : c .before .loop .i ≡ args .size = omega arith in
     c .before .loop .inv .2 ∙ rw all (append-assoc (take (args .to) (now (args .table))) _ _)
 
@@ -60,6 +65,7 @@ move-row-spec =
     (tie.spec
     Inv-loop
     μ-loop
+    returns
     loop-holds
     add-table
     slice-read-table
@@ -69,4 +75,4 @@ move-row-spec =
     loop-less
     loop-again
     same-length
-    returns)
+    returns-2)
