@@ -1,6 +1,7 @@
 /* Times the check behind number 3 and the questions on a store, beside a plain scan of its bytes and the reading of its rules, in one
    run. store WHAT REPEATS: one row alone, for a profiler. store EVENT ROWS REPEATS: an event on a store whose F and N are ROWS, all
-   used, each time on a copy of it. Linked with target/staticlib/libffi.a. */
+   used, each time on a copy of it; alike and twice are the check where all rows are alike but for their last bytes, and where two are
+   equal. Linked with target/staticlib/libffi.a. */
 #include <stdint.h>
 #include <stdio.h>
 #include <stdlib.h>
@@ -58,6 +59,24 @@ static void make(unsigned R, unsigned F, unsigned E, unsigned N, unsigned count,
     for (int i = 0; i < 3; i++) number(store + 10 + 2 * i, used[i]);
 }
 
+/* Gives the used rows of a table the longest texts, which differ in their last two bytes alone, and are not in order; `used` is a power of
+   two, up to 4,096. With `twice` the last row is the one in the middle again. */
+static void make_alike(size_t at, unsigned size, unsigned used, bool twice) {
+    uint8_t *rows = store + at;
+    unsigned text = size == 326 ? 6 : 4;
+    for (unsigned i = 0; i < used; i++) {
+        uint8_t *row = rows + (size_t)size * i;
+        unsigned n = i * 2477 % used;
+        number(row, 0);
+        number(row + 2, 256);
+        memset(row + text, 'a', 254);
+        row[text + 254] = '0' + n / 64;
+        row[text + 255] = '0' + n % 64;
+        if (size == 326) { number(row + 4, 64); memset(row + 262, 'b', 64); }
+    }
+    if (twice) memcpy(rows + (size_t)size * (used - 1), rows + (size_t)size * (used / 2), size);
+}
+
 /* A question of client g1; a kept code is answered once the store is checked. */
 static uint32_t asks(const char *name, unsigned earlier) {
     return acl_publish(store, length, earlier, (Text) "g1", 2, 1, (Text)name, strlen(name), 0, (Text) "", 0, 0, (Text) "", 0, 1, 4,
@@ -83,6 +102,18 @@ static double time_of(const char *what, long repeats) {
     for (long i = 0; i < repeats; i++) sink = once(what);
     clock_gettime(CLOCK_MONOTONIC, &b);
     return ((b.tv_sec - a.tv_sec) * 1e9 + (b.tv_nsec - a.tv_nsec)) / repeats;
+}
+
+/* The check of a store whose tables have so many rows, all alike but at their ends; with `twice` two notes are equal. */
+static void row_alike(const char *name, unsigned rows, bool twice, long repeats) {
+    make(2048, rows, rows, rows, 10, 100);
+    size_t filters = 16 + 2048, eqs = filters + 326ul * rows, notes = eqs + 260ul * rows;
+    make_alike(filters, 326, rows, false);
+    make_alike(eqs, 260, rows, false);
+    make_alike(notes, 260, rows, twice);
+    if ((asks("u1", 2) == 16 * 2 + 1) == twice) exit(1);
+    double floor = time_of("scan", repeats) + time_of("read", repeats), t = time_of("check", repeats);
+    printf("%-34s %9.0f %11.0f %5.2f\n", name, floor, t, t / floor);
 }
 
 static void row(const char *name, unsigned R, unsigned F, unsigned E, unsigned N, unsigned count, unsigned share, long repeats) {
@@ -133,12 +164,18 @@ static void event(const char *what, unsigned rows) {
         if (acl_disconnected(store, length, n % 256, (Text)id, strlen(id)) != 0 || store[10] + 256 * store[11] != rows - 2) exit(1);
     if (!strcmp(what, "ended"))
         if (acl_ended(store, length, n % 256) != 0 || store[14] + 256 * store[15] == rows) exit(1);
-    if (!strcmp(what, "check"))
+    if (!strcmp(what, "check") || !strcmp(what, "alike"))
         if (asks("n0", 2) != 16 * 2 + 1) exit(1);
+    if (!strcmp(what, "twice"))
+        if (asks("n0", 2) == 16 * 2 + 1) exit(1);
 }
 
 static void events(const char *what, unsigned rows, long repeats) {
     make_full(rows, !strcmp(what, "new"));
+    if (!strcmp(what, "alike") || !strcmp(what, "twice")) {
+        make_alike(16 + 2048, 326, rows, false);
+        make_alike(16 + 2048 + 326ul * rows + 260ul * 32, 260, rows, !strcmp(what, "twice"));
+    }
     uint8_t *kept = malloc(length);
     memcpy(kept, store, length);
     for (long i = 0; i < repeats; i++) {
@@ -165,5 +202,9 @@ int main(int count, char **words) {
     row("64 rows a table, all used", 2048, 64, 64, 64, 10, 100, 1000);
     row("512 rows a table, all used", 2048, 512, 512, 512, 10, 100, 20);
     row("4,096 rows a table, all used", 2048, 4096, 4096, 4096, 10, 100, 3);
+    row_alike("64 rows a table, alike", 64, false, 1000);
+    row_alike("512 rows a table, alike", 512, false, 20);
+    row_alike("4,096 rows a table, alike", 4096, false, 3);
+    row_alike("4,096 rows a table, two notes equal", 4096, true, 3);
     return 0;
 }
