@@ -8,15 +8,16 @@ use crate::Verdict;
 use crate::reading::asked_qos;
 use crate::reading::line_says;
 use json::splitting::count_lines;
-use json::splitting::line_at;
-use json::splitting::next_line;
+use json::splitting::line_end;
 use rule::Given;
 use rule::ID;
 use rule::LINES;
 use rule::Refusal;
 use rule::TEXT;
 ghost use mathlib.Core.Path.{_≡_};
-ghost use mathlib.Core.Bool.{false};
+ghost use mathlib.Core.Bool.{false, cond};
+ghost use lib.Dec.{ltb};
+ghost use Prim.Native.Nat.{_+_};
 ghost use lib.ListN.{length};
 ghost use Rattle.json.specs.Lines.{lines};
 ghost use Rattle.rule.specs.Places.{given};
@@ -43,6 +44,16 @@ fn or_hit(found: FirstHit, verdict: Verdict, n: usize) -> FirstHit
     }
 }
 
+// Where the line behind one that ends at `end` begins; the text's length where there is none.
+fn line_behind(text: &[u8], end: usize) -> usize
+    ensures { λ r. ⌜ r ≡ cond (ltb end (length (now (text .entry)))) (end + 1) (length (now (text .entry))) ⌝ }
+{
+    if end < text.len() {
+        return end + 1;
+    }
+    text.len()
+}
+
 // The first rule of the text that hits, or its first faulty line.
 fn first_hit(
     rules: &[u8],
@@ -59,13 +70,14 @@ fn first_hit(
     let mut n = 1;
     let mut at = 0;
     while at < rules.len() {
-        match line_says(line_at(rules, at), asked, id, name, names, topic) {
+        let end = line_end(rules, at);
+        match line_says(&rules[at..end], asked, id, name, names, topic) {
             LineRead::Refused(cause) => {
                 return FirstHit::Faulty(cause, n);
             }
             LineRead::Says(verdict) => {
                 found = or_hit(found, verdict, n);
-                at = next_line(rules, at);
+                at = line_behind(rules, end);
                 n += 1;
             }
         }

@@ -2,16 +2,16 @@
 -- bytes were passed. The measure is what is left of the text. Assumes nothing.
 use mathlib.Core.Path.{_≡_, refl, sym, ap, _∙_}
 use denote.Ref.{now}
-use Prim.Native.Nat.{_+_, _-_, _≤_}
+use Prim.Native.Nat.{ℕ, _+_, _-_, _≤_}
 use native.Mathlib.Omega.{arith}
-use lib.ListN.{length, drop}
+use lib.ListN.{length, take, drop}
 use Rattle.json.specs.Lines.{lines, nextLine}
-use Rattle.json.proofs.LineLaws.{lines-past, next-after}
+use Rattle.json.proofs.LineLaws.{lines-past, line-part, line-within, next-after}
 use Rattle.rule.specs.Places.{given}
 use Rattle.authinfo.specs.Places.{questionOf}
 use Rattle.authinfo.specs.declared.FirstHit.the-variants.{NoRule}
 use Rattle.authinfo.specs.declared.LineRead.{LineRead}
-use Rattle.authinfo.proofs.AskLaws.{from, onLine, on-line, from-first}
+use Rattle.authinfo.proofs.AskLaws.{from, onLine, on-line, from-first, next-behind}
 use borrow.Author.Needs.{needs}
 use Rattle.authinfo.proofs.ask.first_hit.Statement.{statement}
 use Rattle.authinfo.proofs.ask.first_hit.Tie as tie
@@ -27,24 +27,38 @@ abbrev μ-loop : tie.MeasureT-loop
 
 -- the answer by what the line at `at` says
 by-line : (c : tie.After-line-says Inv-loop μ-loop) {read : LineRead} →
-    let a = c .before .before .before .before .before .before .before .before .args in
-    let loop = c .before .before .before .loop in
+    let a = c .before .before .before .before .before .before .before .before .before .args in
+    let loop = c .before .before .before .before .loop in
     let q = questionOf (a .asked) (now (a .topic)) in
     let name = given (a .name) (now (a .names)) in
     c .line-says .result ≡ read → onLine q (now (a .id)) name (loop .found) (loop .n) (lines (drop (nextLine (now (a .rules)) (loop .at)) (now (a .rules)))) read
     ≡ from q (now (a .id)) name NoRule 1 (lines (now (a .rules)))
 by-line c e =
-    let a = c .before .before .before .before .before .before .before .before .args in
-    let loop = c .before .before .before .loop in
+    let a = c .before .before .before .before .before .before .before .before .before .args in
+    let loop = c .before .before .before .before .loop in
+    let line = ap (λ (end : ℕ). take (end - loop .at) (drop (loop .at) (now (a .rules)))) (c .before .before .line-end .ensures) ∙ line-part (now (a .rules)) (loop .at) in
     sym
-    (on-line (questionOf (a .asked) (now (a .topic))) (now (a .id)) (given (a .name) (now (a .names))) (now (a .rules)) (loop .found) (loop .n) (loop .at) (c .before .before .loop-test .taken) (c .before .line-at .ensures) (c .line-says .ensures) e)
+    (on-line (questionOf (a .asked) (now (a .topic))) (now (a .id)) (given (a .name) (now (a .names))) (now (a .rules)) (loop .found) (loop .n) (loop .at) (c .before .before .before .loop-test .taken) line (c .line-says .ensures) e)
     ∙ loop .inv .1
+
+-- the next line
+next : (c : tie.After-line-behind Inv-loop μ-loop) → c .line-behind .result ≡ nextLine (now (c .before .before .before .before .before .before .before .before .before .before .before .before .before .before .args .rules)) (c .before .before .before .before .before .before .before .before .before .loop .at)
+next c = next-behind (now (c .before .before .before .before .before .before .before .before .before .before .before .before .before .before .args .rules)) (c .before .before .before .before .before .before .before .before .before .loop .at) (c .before .before .before .before .before .before .before .line-end .ensures) (c .line-behind .ensures)
 
 loop-holds : tie.Need-loop-holds Inv-loop μ-loop
 loop-holds c = (omega arith, refl)
 
-line-at-requires : tie.Need-line-at-requires Inv-loop μ-loop
-line-at-requires c κs = search needs
+line-end-requires : tie.Need-line-end-requires Inv-loop μ-loop
+line-end-requires c κs = search needs
+
+sub-line-says : tie.Need-sub-line-says Inv-loop μ-loop
+sub-line-says c = omega (arith, c .line-end .ensures)
+
+part-line-says-start : tie.Need-part-line-says-start Inv-loop μ-loop
+part-line-says-start c = omega (arith, c .line-end .ensures)
+
+part-line-says-end : tie.Need-part-line-says-end Inv-loop μ-loop
+part-line-says-end c = let a = c .before .before .before .before .before .before .before .args in omega (arith, c .line-end .ensures, line-within (now (a .rules)) (c .before .before .loop .at) (omega arith))
 
 line-says-requires : tie.Need-line-says-requires Inv-loop μ-loop
 line-says-requires c κs = search needs
@@ -55,7 +69,7 @@ enum-known-cause c = search needs
 returns : tie.Need-returns Inv-loop μ-loop
 unfolding onLine
 returns c =
-    let a = c .before .before .before .before .before .before .before .before .before .before .before .args in
+    let a = c .before .before .before .before .before .before .before .before .before .before .before .before .args in
     by-line (c .before .before .before) (c .before .cause .given .1)
     ∙ from-first (questionOf (a .asked) (now (a .topic))) (now (a .id)) (given (a .name) (now (a .names))) (lines (now (a .rules)))
 
@@ -65,26 +79,24 @@ enum-known-verdict c = search needs
 or-hit-requires : tie.Need-or-hit-requires Inv-loop μ-loop
 or-hit-requires c κs = search needs
 
-next-line-requires : tie.Need-next-line-requires Inv-loop μ-loop
-next-line-requires c κs = search needs
+line-behind-requires : tie.Need-line-behind-requires Inv-loop μ-loop
+line-behind-requires c κs = search needs
 
 add-n : tie.Need-add-n Inv-loop μ-loop
 add-n c = search needs
 
 loop-less : tie.Need-loop-less Inv-loop μ-loop
 loop-less c =
-    let l = c .before .before .before .before .before .before .before in
-    let a = l .before .before .before .before .before .before .args in
-    omega (arith, c .next-line .ensures, next-after (now (a .rules)) (l .before .loop .at) (l .loop-test .taken))
+    let a = c .before .before .before .before .before .before .before .before .before .before .before .before .before .before .args in
+    omega (arith, next c, next-after (now (a .rules)) (c .before .before .before .before .before .before .before .before .before .loop .at) (c .before .before .before .before .before .before .before .before .loop-test .taken))
 
 loop-again : tie.Need-loop-again Inv-loop μ-loop
 unfolding onLine
 loop-again c =
-    let l = c .before .before .before .before .before .before .before in
-    let a = l .before .before .before .before .before .before .args in
-    let loop = l .before .loop in (
-      omega (arith, loop .inv .0, c .next-line .ensures, next-after (now (a .rules)) (loop .at) (l .loop-test .taken)),
-      (λ i. from (questionOf (a .asked) (now (a .topic))) (now (a .id)) (given (a .name) (now (a .names))) (c .before .or-hit .ensures i) (loop .n + 1) (lines (drop (c .next-line .ensures i) (now (a .rules)))))
+    let a = c .before .before .before .before .before .before .before .before .before .before .before .before .before .before .args in
+    let loop = c .before .before .before .before .before .before .before .before .before .loop in (
+      omega (arith, loop .inv .0, next c, next-after (now (a .rules)) (loop .at) (c .before .before .before .before .before .before .before .before .loop-test .taken)),
+      (λ i. from (questionOf (a .asked) (now (a .topic))) (now (a .id)) (given (a .name) (now (a .names))) (c .before .or-hit .ensures i) (loop .n + 1) (lines (drop (next c i) (now (a .rules)))))
           ∙ by-line (c .before .before .before .before .before) (c .before .before .before .verdict .given .1),
     )
 
@@ -103,13 +115,16 @@ first-hit-spec =
     Inv-loop
     μ-loop
     loop-holds
-    line-at-requires
+    line-end-requires
+    sub-line-says
+    part-line-says-start
+    part-line-says-end
     line-says-requires
     enum-known-cause
     returns
     enum-known-verdict
     or-hit-requires
-    next-line-requires
+    line-behind-requires
     add-n
     loop-less
     loop-again
