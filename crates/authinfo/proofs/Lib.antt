@@ -1,4 +1,5 @@
 pub mod MemberLaws
+pub mod OnePassLaws
 pub mod ReadingLaws
 pub mod FillingLaws
 pub mod AskLaws

@@ -35,6 +35,10 @@ use Rattle.authinfo.specs.ClientRule as rule
 use Rattle.authinfo.specs.ClientRule.{textNamed, qosLevel, qosIn, qosValue, qosOf, ruleIn, configured, fillFor, filledTopic, withTopic, filledRule, ruleFrom, readLine}
 use Rattle.authinfo.specs.Decision.{Question, qosAsked, topicAsked, covers, among, qosHits, publishRetain, retainHits, topicHits, hits}
 use Rattle.authinfo.specs.Places.{questionOf, qosOfAsked, placesAt, permissionHere, actionHere, withLevel, levelHere, levelsUpTo, levelsFrom, oneLevel, qosHere, flagOf, takesKind, takenBy, filledFor, ShortTopic, verdict, byTopic, topicFrom, withQos, withAction, withPermission, ruleSays, lineSays}
+use Rattle.authinfo.specs.OnePass.{quoteAt, partsAt, partsSay, LineTo, WhereLine}
+use Rattle.authinfo.specs.declared.RuleParts.{RuleParts}
+use Rattle.authinfo.specs.declared.LinePassed.{LinePassed}
+use Rattle.authinfo.specs.declared.LinePassed.the-variants.{Parts}
 use Rattle.authinfo.specs.declared.Action.{Action}
 use Rattle.authinfo.specs.declared.Action.the-variants as action
 use Rattle.authinfo.specs.declared.Asked.{Asked}
@@ -177,13 +181,20 @@ qos-other line q p Other h k = refl
 
 -- ---- a rule, by what is read of it
 
-pub rule-by : (line : List ℕ) (m : RulePlaces) (a : Asked) (id : List ℕ) (name : Option (List ℕ)) (topic : List ℕ)
+pub parts-by : (line : List ℕ) (p : RuleParts) (a : Asked) (id : List ℕ) (name : Option (List ℕ)) (topic : List ℕ)
+    {permission : PermissionRead} {act : ActionRead} {qos : QosRead} {taken : TopicRead}
+    → p .permission ≡ permission → p .action ≡ act → qosHere line (qosOfAsked a) (p .qos) ≡ qos → topicFrom topic id name line (p .topic) ≡ taken
+    → partsSay line p a id name topic ≡ withPermission (truthFrom line (p .retain)) a permission act qos taken
+unfolding partsSay
+parts-by line p a id name topic e f g h = λ i. withPermission (truthFrom line (p .retain)) a (e i) (f i) (g i) (h i)
+
+rule-by : (line : List ℕ) (m : RulePlaces) (a : Asked) (id : List ℕ) (name : Option (List ℕ)) (topic : List ℕ)
     {permission : PermissionRead} {act : ActionRead} {qos : QosRead} {taken : TopicRead}
     → permissionHere line (m .permission) ≡ permission → actionHere line (m .action) ≡ act → qosHere line (qosOfAsked a) (m .qos) ≡ qos
     → topicFrom topic id name line (m .topic) ≡ taken
     → ruleSays line m a id name topic ≡ withPermission (truthFrom line (m .retain)) a permission act qos taken
-unfolding ruleSays
-rule-by line m a id name topic e f g h = λ i. withPermission (truthFrom line (m .retain)) a (e i) (f i) (g i) (h i)
+unfolding ruleSays partsSay partsAt
+rule-by line m a id name topic e f g h = parts-by line (partsAt line m) a id name topic e f g h
 
 -- the QoS is read with the asked one
 pub qos-asked : (line : List ℕ) {q : ℕ} (a : Asked) (place : Place) {r s : QosRead} → q ≡ qosOfAsked a → r ≡ qosHere line q place → r ≡ s
@@ -448,3 +459,30 @@ module _ (id : List ℕ) (name : Option (List ℕ)) (line : List ℕ) where
           let l : longest v ≡ n = cc in
           ap (λ (b : Bool). lineSays (questionOf a topic) (cond b (refused TooLong) (filledRule id name (configured v)))) (le-ltb textLimit (longest v) (omega arith))
           ∙ sym (value-says line (skipBlanks line 0) a topic id name v (line-is line q .1) (omega arith))
+
+-- ---- what a line's members tell
+
+pub tells-short : (line : List ℕ) {p : RuleParts} (m : RulePlaces) → p ≡ partsAt line m → ShortTopic line (m .topic) → ShortTopic line (p .topic) × (p .quote ≡ quoteAt line (p .topic))
+unfolding partsAt
+tells-short line m e h = subst (λ (x : RuleParts). ShortTopic line (x .topic) × (x .quote ≡ quoteAt line (x .topic))) (sym e) (h, refl)
+
+pub tells-says : (line : List ℕ) (a : Asked) (topic id : List ℕ) (name : Option (List ℕ)) {p : RuleParts} (m : RulePlaces) → p ≡ partsAt line m
+    → partsSay line p a id name topic ≡ ruleSays line m a id name topic
+unfolding ruleSays partsSay partsAt
+tells-says line a topic id name m e = ap (λ (x : RuleParts). partsSay line x a id name topic) e
+
+-- where a line was passed over
+pub line-answered : (line : List ℕ) {r : LinePassed} {p : RuleParts} → r ≡ Parts p → WhereLine r (LineTo line) → LineTo line p
+line-answered line e h = subst (λ (x : LinePassed). WhereLine x (LineTo line)) e h
+
+module _ (line : List ℕ) {p : RuleParts} (t : LineTo line p) where
+  passed-valid : checked (lineValue line) ≡ Valid (longest (t .value))
+  unfolding checked
+  passed-valid = ap checked (t .reads)
+
+  pub passed-short : ShortTopic line (p .topic) × (p .quote ≡ quoteAt line (p .topic))
+  passed-short = tells-short line (placesAt line (skipBlanks line 0)) (t .are) (short-line line passed-valid (t .short))
+
+  pub passed-says : (a : Asked) (topic id : List ℕ) (name : Option (List ℕ)) → length line ≤ lineLimit
+      → partsSay line p a id name topic ≡ lineSays (questionOf a topic) (readLine id name line)
+  passed-says a topic id name h = tells-says line a topic id name (placesAt line (skipBlanks line 0)) (t .are) ∙ sym (valid-says id name line a topic h passed-valid (t .short))

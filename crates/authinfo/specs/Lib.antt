@@ -3,3 +3,4 @@ pub mod Decision
 pub mod Answers
 pub mod Expiry
 pub mod Places
+pub mod OnePass

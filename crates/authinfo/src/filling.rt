@@ -2,7 +2,6 @@
 use crate::TopicRead;
 use json::Copied;
 use json::Place;
-use json::access::plain_text;
 use json::strings::decode;
 use rule::Given;
 use rule::Refusal;
@@ -12,6 +11,7 @@ ghost use mathlib.Core.Path.{_≡_};
 ghost use mathlib.Core.Bool.{false};
 ghost use mathlib.Core.Option.{some};
 ghost use Rattle.json.specs.Strings.{stringAt};
+ghost use Rattle.json.specs.Plain.{plainText};
 ghost use Rattle.rule.specs.Places.{given};
 ghost use Rattle.rule.specs.declared.Given.«the-variants».{Length};
 ghost use Rattle.authinfo.specs.ClientRule as rule;
@@ -108,10 +108,11 @@ fn configured(text: &[u8], id: &[u8], name: Given, names: &[u8], topic: &[u8]) -
     filled(text, false, id, name, names, topic)
 }
 
-// The topic whose string stands at this place of the line. A plain one is read in place.
+// The topic whose string stands at this place of the line. A plain one, whose closing quote is given, is read in place.
 pub(crate) fn topic_at(
     line: &[u8],
     at: usize,
+    quote: Place,
     id: &[u8],
     name: Given,
     names: &[u8],
@@ -119,9 +120,10 @@ pub(crate) fn topic_at(
 ) -> TopicRead
     requires { ⌜ decision.nameOver (given name (now names)) ≡ false ⌝ }
     requires { ⌜ spec.ShortAt (stringAt (now line) at) ⌝ }
+    requires { ⌜ quote ≡ plainText (now line) at ⌝ }
     ensures { λ r. ⌜ r ≡ spec.topicTakes (now (topic .entry)) (now (id .entry)) (given name (now (names .entry))) (spec.textOf (stringAt (now (line .entry)) at)) ⌝ }
 {
-    if let Place::At(end) = plain_text(line, at) {
+    if let Place::At(end) = quote {
         return configured(&line[at + 1..end], id, name, names, topic);
     }
     let mut decoded = [0u8; TEXT];

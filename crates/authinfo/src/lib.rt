@@ -1,10 +1,12 @@
 // Per-client rules and expiry (document 01, Per-client rules; rmqtt/src/acl.rs): `ask` answers by a text of rules, `reading` reads a line,
-// `filling` fills its topic, `times` compares times.
+// or `one_pass` its members, `filling` fills its topic, `times` compares times.
 pub mod ask;
 mod filling;
 mod members;
+mod one_pass;
 mod reading;
 pub mod times;
+mod words;
 
 use json::Place;
 use rule::Refusal;
@@ -55,6 +57,22 @@ pub enum PermissionRead {
 pub enum ActionRead {
     Is(Action),
     Bad,
+}
+
+// What an object's members tell of a rule: two words, three values by their places, and the topic's closing quote if its string is plain.
+pub struct RuleParts {
+    pub permission: PermissionRead,
+    pub action: ActionRead,
+    pub qos: Place,
+    pub retain: Place,
+    pub topic: Place,
+    pub quote: Place,
+}
+
+// What a line that was passed over tells of a rule; or that it was not.
+pub enum LinePassed {
+    Parts(RuleParts),
+    Unread,
 }
 
 // A rule's QoS: does it take the asked one?

@@ -2,14 +2,19 @@
 use crate::Action;
 use crate::ActionRead;
 use crate::Asked;
+use crate::LinePassed;
 use crate::LineRead;
 use crate::PermissionRead;
 use crate::QosRead;
+use crate::RuleParts;
 use crate::RulePlaces;
 use crate::TopicRead;
 use crate::Verdict;
 use crate::filling::topic_at;
 use crate::members::places_at;
+use crate::one_pass::in_one_pass;
+use crate::words::action_at;
+use crate::words::permission_at;
 use json::Checked;
 use json::Found;
 use json::Kind;
@@ -19,7 +24,7 @@ use json::access::first_element;
 use json::access::kind_at;
 use json::access::next_item;
 use json::access::number_value;
-use json::strings::string_is;
+use json::access::plain_text;
 use json::values::check;
 use json::values::skip_blanks;
 use rule::Given;
@@ -33,43 +38,9 @@ ghost use Rattle.rule.specs.Places.{given};
 ghost use Rattle.authinfo.specs.ClientRule as rule;
 ghost use Rattle.authinfo.specs.Decision as decision;
 ghost use Rattle.authinfo.specs.Places as spec;
+ghost use Rattle.authinfo.specs.OnePass as pass;
 
 const QOS: u64 = 2;
-
-// The permission at a place: exactly `allow` or `deny`.
-fn permission_at(line: &[u8], at: Place) -> PermissionRead
-    ensures { λ r. ⌜ r ≡ spec.permissionHere (now (line .entry)) at ⌝ }
-{
-    let Place::At(p) = at else {
-        return PermissionRead::Bad;
-    };
-    if string_is(line, p, b"allow") {
-        return PermissionRead::Is(true);
-    }
-    if string_is(line, p, b"deny") {
-        return PermissionRead::Is(false);
-    }
-    PermissionRead::Bad
-}
-
-// The action at a place: exactly `all`, `publish` or `subscribe`.
-fn action_at(line: &[u8], at: Place) -> ActionRead
-    ensures { λ r. ⌜ r ≡ spec.actionHere (now (line .entry)) at ⌝ }
-{
-    let Place::At(p) = at else {
-        return ActionRead::Bad;
-    };
-    if string_is(line, p, b"all") {
-        return ActionRead::Is(Action::All);
-    }
-    if string_is(line, p, b"publish") {
-        return ActionRead::Is(Action::Publish);
-    }
-    if string_is(line, p, b"subscribe") {
-        return ActionRead::Is(Action::Subscribe);
-    }
-    ActionRead::Bad
-}
 
 // One more number of a rule's QoS: "each modulo 256 and then 0 to 2".
 fn with_level(n: u64, asked: u64, takes: bool) -> QosRead
@@ -174,10 +145,39 @@ fn verdict(allow: bool, hits: bool) -> Verdict
     Verdict::Denies
 }
 
-// The rule of an object with members at these places; no string of the line is over 256 bytes.
+// The closing quote of the string at a place, if it is plain.
+fn quote_at(line: &[u8], at: Place) -> Place
+    ensures { λ r. ⌜ r ≡ pass.quoteAt (now (line .entry)) at ⌝ }
+{
+    let Place::At(p) = at else {
+        return Place::Nowhere;
+    };
+    plain_text(line, p)
+}
+
+// What the members at these places tell.
+fn parts_at(line: &[u8], places: RulePlaces) -> RuleParts
+    ensures { λ r. ⌜ r ≡ pass.partsAt (now (line .entry)) places ⌝ }
+{
+    let at_permission = places.permission;
+    let at_action = places.action;
+    let qos = places.qos;
+    let retain = places.retain;
+    let topic = places.topic;
+    RuleParts {
+        permission: permission_at(line, at_permission),
+        action: action_at(line, at_action),
+        qos,
+        retain,
+        topic,
+        quote: quote_at(line, topic),
+    }
+}
+
+// The rule of an object whose members tell this; no string of the line is over 256 bytes.
 fn rule_says(
     line: &[u8],
-    places: RulePlaces,
+    parts: RuleParts,
     asked: Asked,
     id: &[u8],
     name: Given,
@@ -185,29 +185,31 @@ fn rule_says(
     topic: &[u8],
 ) -> LineRead
     requires { ⌜ decision.nameOver (given name (now names)) ≡ false ⌝ }
-    requires { ⌜ spec.ShortTopic (now line) (places .topic) ⌝ }
-    ensures { λ r. ⌜ r ≡ spec.ruleSays (now (line .entry)) places asked (now (id .entry)) (given name (now (names .entry))) (now (topic .entry)) ⌝ }
+    requires { ⌜ spec.ShortTopic (now line) (parts .topic) ⌝ }
+    requires { ⌜ parts .quote ≡ pass.quoteAt (now line) (parts .topic) ⌝ }
+    ensures { λ r. ⌜ r ≡ pass.partsSay (now (line .entry)) parts asked (now (id .entry)) (given name (now (names .entry))) (now (topic .entry)) ⌝ }
 {
-    let at_permission = places.permission;
-    let PermissionRead::Is(allow) = permission_at(line, at_permission) else {
+    let permission = parts.permission;
+    let PermissionRead::Is(allow) = permission else {
         return LineRead::Refused(Refusal::NotARule);
     };
-    let at_action = places.action;
-    let ActionRead::Is(action) = action_at(line, at_action) else {
+    let covered = parts.action;
+    let ActionRead::Is(action) = covered else {
         return LineRead::Refused(Refusal::NotARule);
     };
-    let at_qos = places.qos;
+    let at_qos = parts.qos;
     let QosRead::Takes(level) = qos_at(line, at_qos, asked_qos(asked)) else {
         return LineRead::Refused(Refusal::NotARule);
     };
-    let at_topic = places.topic;
+    let at_topic = parts.topic;
     let Place::At(p) = at_topic else {
         return LineRead::Refused(Refusal::NotARule);
     };
-    match topic_at(line, p, id, name, names, topic) {
+    let quote = parts.quote;
+    match topic_at(line, p, quote, id, name, names, topic) {
         TopicRead::Refused(cause) => LineRead::Refused(cause),
         TopicRead::Takes(taken) => {
-            let at_retain = places.retain;
+            let at_retain = parts.retain;
             let kind = takes_kind(allow, action, truth_at(line, at_retain), asked);
             LineRead::Says(verdict(allow, level && kind && taken))
         }
@@ -229,6 +231,9 @@ pub(crate) fn line_says(
     if LINE < line.len() {
         return LineRead::Refused(Refusal::TooLong);
     }
+    if let LinePassed::Parts(parts) = in_one_pass(line) {
+        return rule_says(line, parts, asked, id, name, names, topic);
+    }
     match check(line) {
         Checked::Invalid => LineRead::Refused(Refusal::NotJson),
         Checked::Valid(longest) => {
@@ -236,7 +241,7 @@ pub(crate) fn line_says(
                 return LineRead::Refused(Refusal::TooLong);
             }
             let places = places_at(line, skip_blanks(line, 0));
-            rule_says(line, places, asked, id, name, names, topic)
+            rule_says(line, parts_at(line, places), asked, id, name, names, topic)
         }
     }
 }

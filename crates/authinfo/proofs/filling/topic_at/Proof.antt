@@ -16,18 +16,11 @@ use Rattle.authinfo.proofs.filling.topic_at.Statement.{statement}
 use Rattle.authinfo.proofs.filling.topic_at.Tie as tie
 
 -- the plain string that was found
-found : (c : tie.After-known-told) →
-    let a = c .before .before .before .before .before .before .before .before .args in
-    Plain (now (a .line)) (a .at) (c .before .end .given .0 .0)
-found c =
-    let a = c .before .before .before .before .before .before .before .before .args in
-    plain-string (now (a .line)) (a .at) (sym (c .before .before .before .plain-text .ensures) ∙ c .before .end .given .1)
+found : (c : tie.After-known-told) → Plain (now (c .before .before .before .before .before .before .before .args .line)) (c .before .before .before .before .before .before .before .args .at) (c .before .quote .given .0 .0)
+found c = plain-string (now (c .before .before .before .before .before .before .before .args .line)) (c .before .before .before .before .before .before .before .args .at) (sym (c .before .before .before .before .before .before .before .pre .1 .1) ∙ c .before .quote .given .1)
 
-plain-text-requires : tie.Need-plain-text-requires
-plain-text-requires c κs = search needs
-
-enum-known-end : tie.Need-enum-known-end
-enum-known-end c = search needs
+enum-known-quote : tie.Need-enum-known-quote
+enum-known-quote c = search needs
 
 add-configured : tie.Need-add-configured
 add-configured c =
@@ -47,12 +40,12 @@ part-configured-end c =
 
 configured-requires : tie.Need-configured-requires
 configured-requires c κs =
-    let s = c .before .before .before .before .before .before .before .before .before in
-    (s .pre .0, short-there (stringAt (now (s .args .line)) (s .args .at)) (found (c .before) .string) (s .pre .1))
+    let s = c .before .before .before .before .before .before .before .before in
+    (s .pre .0, short-there (stringAt (now (s .args .line)) (s .args .at)) (found (c .before) .string) (s .pre .1 .0))
 
 returns : tie.Need-returns
 returns c =
-    let a = c .before .before .before .before .before .before .before .before .before .before .args in
+    let a = c .before .before .before .before .before .before .before .before .before .args in
     c .configured .ensures
     ∙ sym (ap (topicTakes (now (a .topic)) (now (a .id)) (given (a .name) (now (a .names)))) (text-there (stringAt (now (a .line)) (a .at)) (found (c .before .before) .string)))
 
@@ -70,22 +63,22 @@ enum-known-n c = search needs
 
 array-share-prefix-decoded : tie.Need-array-share-prefix-decoded
 array-share-prefix-decoded c =
-    let a = c .before .before .before .before .before .before .before .before .before .before .before .before .before .args in
+    let a = c .before .before .before .before .before .before .before .before .before .before .before .before .args in
     let d = c .before .before .before .before .decode in
     (decoded-length (replicate 256 0) (stringAt (now (a .line)) (a .at)) (d .ensures .0) (d .ensures .1) (c .before .n .given .1)) .room
 
 slice-aggregate-configured : tie.Need-slice-aggregate-configured
 slice-aggregate-configured c =
-    let a = c .before .before .before .before .before .before .before .before .before .before .before .before .before .before .args in
+    let a = c .before .before .before .before .before .before .before .before .before .before .before .before .before .args in
     let d = c .before .before .before .before .before .decode in
     sym (length-take-le (c .before .before .n .given .0 .0) _ ((decoded-length (replicate 256 0) (stringAt (now (a .line)) (a .at)) (d .ensures .0) (d .ensures .1) (c .before .before .n .given .1)) .room))
 
 configured-requires-2 : tie.Need-configured-requires-2
 configured-requires-2 c κs =
-    let s = c .before .before .before .before .before .before .before .before .before .before .before .before .before .before in
+    let s = c .before .before .before .before .before .before .before .before .before .before .before .before .before in
     let d = c .before .before .before .before .before .decode in
     let k = decoded-length (replicate 256 0) (stringAt (now (s .args .line)) (s .args .at)) (d .ensures .0) (d .ensures .1) (c .before .before .n .given .1) in
-    (s .pre .0, rw (k .front) (short-there (stringAt (now (s .args .line)) (s .args .at)) (k .is) (s .pre .1)))
+    (s .pre .0, rw (k .front) (short-there (stringAt (now (s .args .line)) (s .args .at)) (k .is) (s .pre .1 .0)))
 
 enum-told-2 : tie.Need-enum-told-2
 enum-told-2 c = search needs
@@ -95,7 +88,7 @@ enum-told-3 c = search needs
 
 returns-2 : tie.Need-returns-2
 returns-2 c =
-    let a = c .before .before .before .before .before .before .before .before .before .before .before .before .before .before .before .args in
+    let a = c .before .before .before .before .before .before .before .before .before .before .before .before .before .before .args in
     let d = c .before .before .before .before .before .before .decode in
     let k = decoded-length (replicate 256 0) (stringAt (now (a .line)) (a .at)) (d .ensures .0) (d .ensures .1) (c .before .before .before .n .given .1) in
     c .configured2 .ensures
@@ -103,15 +96,15 @@ returns-2 c =
 
 returns-3 : tie.Need-returns-3
 returns-3 c =
-    let s = c .before .before .before .before .before .before .before .before .before .before .before .before in
+    let s = c .before .before .before .before .before .before .before .before .before .before .before in
     let o = stringAt (now (s .args .line)) (s .args .at) in
     let over = decoded-over 256 o (c .before .before .before .decode .ensures .0) (c .enum-told2 .given .1) in
-    let short = short-there o (over .is) (s .pre .1) in
+    let short = short-there o (over .is) (s .pre .1 .0) in
     absurd (omega arith)
 
 returns-4 : tie.Need-returns-4
 returns-4 c =
-    let a = c .before .before .before .before .before .before .before .before .before .before .before .before .args in
+    let a = c .before .before .before .before .before .before .before .before .before .before .before .args in
     let o = stringAt (now (a .line)) (a .at) in
     sym (no-topic (now (a .topic)) (now (a .id)) (given (a .name) (now (a .names))) o (decoded-none 256 o (c .before .before .before .decode .ensures .0) (c .enum-told3 .given .1)))
 
@@ -119,8 +112,7 @@ pub topic-at-spec : {M : Type 1} → statement M
 topic-at-spec =
     tie.close
     (tie.spec
-    plain-text-requires
-    enum-known-end
+    enum-known-quote
     add-configured
     sub-configured
     part-configured-start

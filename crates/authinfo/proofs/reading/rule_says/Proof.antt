@@ -6,34 +6,30 @@ use denote.Ref.{now}
 use Rattle.rule.specs.Members.{truthFrom}
 use Rattle.rule.specs.Places.{given}
 use Rattle.authinfo.specs.Places.{ShortTopic, takesKind, verdict, topicFrom, byTopic, withQos, withAction, withPermission}
+use Rattle.authinfo.specs.OnePass.{quoteAt}
 use Rattle.authinfo.specs.declared.LineRead.the-variants.{Says}
-use Rattle.authinfo.proofs.ReadingLaws.{rule-by, qos-asked, and-true, and-false}
+use Rattle.authinfo.proofs.ReadingLaws.{parts-by, qos-asked, and-true, and-false}
 use borrow.Author.Needs.{needs}
 use Rattle.authinfo.proofs.reading.rule_says.Statement.{statement}
 use Rattle.authinfo.proofs.reading.rule_says.Tie as tie
 
 -- QoS, kind and topic all hit
 all-hit : (c : tie.Joined2) →
-    let a = c .before .before .before .before .before .before .before .before .before .before .before .before .before .before .before .before .before .before .before .before .before .before .before .before .before .before .before .before .args in
+    let a = c .before .before .before .before .before .before .before .before .before .before .before .before .before .before .before .before .before .before .before .before .before .before .before .before .before .before .args in
     c .if2 .verdict
-    ≡ ((c .before .before .before .before .before .before .before .before .before .before .before .before .level .given .0 .0
-    && takesKind (c .before .before .before .before .before .before .before .before .before .before .before .before .before .before .before .before .before .before .before .before .before .allow .given .0 .0) (c .before .before .before .before .before .before .before .before .before .before .before .before .before .before .before .before .before .action .given .0 .0) (truthFrom (now (a .line)) (a .places .retain)) (a .asked))
-    && c .before .before .before .before .before .taken .given .0 .0)
+    ≡ ((c .before .before .before .before .before .before .before .before .before .before .before .before .level .given .0 .0 && takesKind (c .before .before .before .before .before .before .before .before .before .before .before .before .before .before .before .before .before .before .before .before .permission .given .0 .0) (c .before .before .before .before .before .before .before .before .before .before .before .before .before .before .before .before .before .covered .given .0 .0) (truthFrom (now (a .line)) (a .parts .retain)) (a .asked)) && c .before .before .before .before .before .taken .given .0 .0)
 all-hit c =
-    let a = c .before .before .before .before .before .before .before .before .before .before .before .before .before .before .before .before .before .before .before .before .before .before .before .before .before .before .before .before .args in
+    let a = c .before .before .before .before .before .before .before .before .before .before .before .before .before .before .before .before .before .before .before .before .before .before .before .before .before .before .args in
     let level = c .before .before .before .before .before .before .before .before .before .before .before .before .level .given .0 .0 in
     let taken = c .before .before .before .before .before .taken .given .0 .0 in
     let kind = c .before .before .takes-kind .result in
-    let kinds = c .before .before .takes-kind .ensures ∙ ap (λ t. takesKind (c .before .before .before .before .before .before .before .before .before .before .before .before .before .before .before .before .before .before .before .before .before .allow .given .0 .0) (c .before .before .before .before .before .before .before .before .before .before .before .before .before .before .before .before .before .action .given .0 .0) t (a .asked)) (c .before .before .before .truth-at .ensures) in
+    let kinds = c .before .before .takes-kind .ensures ∙ ap (λ t. takesKind (c .before .before .before .before .before .before .before .before .before .before .before .before .before .before .before .before .before .before .before .before .permission .given .0 .0) (c .before .before .before .before .before .before .before .before .before .before .before .before .before .before .before .before .before .covered .given .0 .0) t (a .asked)) (c .before .before .before .truth-at .ensures) in
     ⊎-elim (λ w. and-true taken (w .0 .taken) (w .1)) (λ w. and-false taken (w .0 .left) (w .1)) (c .if2 .came)
     ∙ ap (λ (b : Bool). b && taken)
     (⊎-elim (λ w. and-true kind (w .0 .taken) (w .1)) (λ w. and-false kind (w .0 .left) (w .1)) (c .before .if1 .came) ∙ ap (λ (b : Bool). level && b) kinds)
 
-permission-at-requires : tie.Need-permission-at-requires
-permission-at-requires c κs = search needs
-
-enum-known-allow : tie.Need-enum-known-allow
-enum-known-allow c = search needs
+enum-known-permission : tie.Need-enum-known-permission
+enum-known-permission c = search needs
 
 enum-told : tie.Need-enum-told
 enum-told c = search needs
@@ -41,18 +37,15 @@ enum-told c = search needs
 returns : tie.Need-returns
 unfolding withPermission
 returns c =
-    let a = c .before .before .before .before .before .before .before .args in
-    sym (rule-by (now (a .line)) (a .places) (a .asked) (now (a .id)) (given (a .name) (now (a .names))) (now (a .topic))
-    (sym (c .before .before .permission-at .ensures) ∙ c .enum-told .given .1)
+    let a = c .before .before .before .before .before .before .args in
+    sym (parts-by (now (a .line)) (a .parts) (a .asked) (now (a .id)) (given (a .name) (now (a .names))) (now (a .topic))
+    (c .enum-told .given .1)
     refl
     refl
     refl)
 
-action-at-requires : tie.Need-action-at-requires
-action-at-requires c κs = search needs
-
-enum-known-action : tie.Need-enum-known-action
-enum-known-action c = search needs
+enum-known-covered : tie.Need-enum-known-covered
+enum-known-covered c = search needs
 
 enum-told-2 : tie.Need-enum-told-2
 enum-told-2 c = search needs
@@ -60,10 +53,10 @@ enum-told-2 c = search needs
 returns-2 : tie.Need-returns-2
 unfolding withPermission withAction
 returns-2 c =
-    let a = c .before .before .before .before .before .before .before .before .before .before .before .args in
-    sym (rule-by (now (a .line)) (a .places) (a .asked) (now (a .id)) (given (a .name) (now (a .names))) (now (a .topic))
-    (sym (c .before .before .before .before .before .before .permission-at .ensures) ∙ c .before .before .before .before .allow .given .1)
-    (sym (c .before .before .action-at .ensures) ∙ c .enum-told2 .given .1)
+    let a = c .before .before .before .before .before .before .before .before .before .args in
+    sym (parts-by (now (a .line)) (a .parts) (a .asked) (now (a .id)) (given (a .name) (now (a .names))) (now (a .topic))
+    (c .before .before .before .permission .given .1)
+    (c .enum-told2 .given .1)
     refl
     refl)
 
@@ -82,11 +75,11 @@ enum-told-3 c = search needs
 returns-3 : tie.Need-returns-3
 unfolding withPermission withAction withQos
 returns-3 c =
-    let a = c .before .before .before .before .before .before .before .before .before .before .before .before .before .before .before .before .args in
-    sym (rule-by (now (a .line)) (a .places) (a .asked) (now (a .id)) (given (a .name) (now (a .names))) (now (a .topic))
-    (sym (c .before .before .before .before .before .before .before .before .before .before .before .permission-at .ensures) ∙ c .before .before .before .before .before .before .before .before .before .allow .given .1)
-    (sym (c .before .before .before .before .before .before .before .action-at .ensures) ∙ c .before .before .before .before .before .action .given .1)
-    (qos-asked (now (a .line)) (a .asked) (a .places .qos) (c .before .before .before .asked-qos .ensures) (c .before .before .qos-at .ensures) (c .enum-told3 .given .1))
+    let a = c .before .before .before .before .before .before .before .before .before .before .before .before .before .before .args in
+    sym (parts-by (now (a .line)) (a .parts) (a .asked) (now (a .id)) (given (a .name) (now (a .names))) (now (a .topic))
+    (c .before .before .before .before .before .before .before .before .permission .given .1)
+    (c .before .before .before .before .before .covered .given .1)
+    (qos-asked (now (a .line)) (a .asked) (a .parts .qos) (c .before .before .before .asked-qos .ensures) (c .before .before .qos-at .ensures) (c .enum-told3 .given .1))
     refl)
 
 enum-known-at-topic : tie.Need-enum-known-at-topic
@@ -98,15 +91,19 @@ enum-told-4 c = search needs
 returns-4 : tie.Need-returns-4
 unfolding withPermission withAction withQos byTopic topicFrom
 returns-4 c =
-    let a = c .before .before .before .before .before .before .before .before .before .before .before .before .before .before .before .before .before .before .before .args in
-    sym (rule-by (now (a .line)) (a .places) (a .asked) (now (a .id)) (given (a .name) (now (a .names))) (now (a .topic))
-    (sym (c .before .before .before .before .before .before .before .before .before .before .before .before .before .before .permission-at .ensures) ∙ c .before .before .before .before .before .before .before .before .before .before .before .before .allow .given .1)
-    (sym (c .before .before .before .before .before .before .before .before .before .before .action-at .ensures) ∙ c .before .before .before .before .before .before .before .before .action .given .1)
-    (qos-asked (now (a .line)) (a .asked) (a .places .qos) (c .before .before .before .before .before .before .asked-qos .ensures) (c .before .before .before .before .before .qos-at .ensures) (c .before .before .before .level .given .1))
+    let a = c .before .before .before .before .before .before .before .before .before .before .before .before .before .before .before .before .before .args in
+    sym (parts-by (now (a .line)) (a .parts) (a .asked) (now (a .id)) (given (a .name) (now (a .names))) (now (a .topic))
+    (c .before .before .before .before .before .before .before .before .before .before .before .permission .given .1)
+    (c .before .before .before .before .before .before .before .before .covered .given .1)
+    (qos-asked (now (a .line)) (a .asked) (a .parts .qos) (c .before .before .before .before .before .before .asked-qos .ensures) (c .before .before .before .before .before .qos-at .ensures) (c .before .before .before .level .given .1))
     (ap (topicFrom (now (a .topic)) (now (a .id)) (given (a .name) (now (a .names))) (now (a .line))) (c .enum-told4 .given .1)))
 
 topic-at-requires : tie.Need-topic-at-requires
-topic-at-requires c κs = (c .before .before .before .before .before .before .before .before .before .before .before .before .before .before .before .before .before .before .before .before .pre .0, subst (ShortTopic (now (c .before .before .before .before .before .before .before .before .before .before .before .before .before .before .before .before .before .before .before .before .args .line))) (c .before .at-topic .given .1) (c .before .before .before .before .before .before .before .before .before .before .before .before .before .before .before .before .before .before .before .before .pre .1))
+unfolding quoteAt
+topic-at-requires c κs =
+    let s = c .before .before .before .before .before .before .before .before .before .before .before .before .before .before .before .before .before .before in
+    let line = now (s .args .line) in
+    (s .pre .0, (subst (ShortTopic line) (c .before .at-topic .given .1) (s .pre .1 .0), s .pre .1 .1 ∙ ap (quoteAt line) (c .before .at-topic .given .1)))
 
 enum-known-cause : tie.Need-enum-known-cause
 enum-known-cause c = search needs
@@ -126,34 +123,32 @@ verdict-requires c κs = search needs
 returns-5 : tie.Need-returns-5
 unfolding withPermission withAction withQos byTopic topicFrom
 returns-5 c =
-    let a = c .before .before .before .before .before .before .before .before .before .before .before .before .before .before .before .before .before .before .before .before .before .before .before .before .args in
-    sym (rule-by (now (a .line)) (a .places) (a .asked) (now (a .id)) (given (a .name) (now (a .names))) (now (a .topic))
-    (sym (c .before .before .before .before .before .before .before .before .before .before .before .before .before .before .before .before .before .before .before .permission-at .ensures) ∙ c .before .before .before .before .before .before .before .before .before .before .before .before .before .before .before .before .before .allow .given .1)
-    (sym (c .before .before .before .before .before .before .before .before .before .before .before .before .before .before .before .action-at .ensures) ∙ c .before .before .before .before .before .before .before .before .before .before .before .before .before .action .given .1)
-    (qos-asked (now (a .line)) (a .asked) (a .places .qos) (c .before .before .before .before .before .before .before .before .before .before .before .asked-qos .ensures) (c .before .before .before .before .before .before .before .before .before .before .qos-at .ensures) (c .before .before .before .before .before .before .before .before .level .given .1))
+    let a = c .before .before .before .before .before .before .before .before .before .before .before .before .before .before .before .before .before .before .before .before .before .before .args in
+    sym (parts-by (now (a .line)) (a .parts) (a .asked) (now (a .id)) (given (a .name) (now (a .names))) (now (a .topic))
+    (c .before .before .before .before .before .before .before .before .before .before .before .before .before .before .before .before .permission .given .1)
+    (c .before .before .before .before .before .before .before .before .before .before .before .before .before .covered .given .1)
+    (qos-asked (now (a .line)) (a .asked) (a .parts .qos) (c .before .before .before .before .before .before .before .before .before .before .before .asked-qos .ensures) (c .before .before .before .before .before .before .before .before .before .before .qos-at .ensures) (c .before .before .before .before .before .before .before .before .level .given .1))
     (ap (topicFrom (now (a .topic)) (now (a .id)) (given (a .name) (now (a .names))) (now (a .line))) (c .before .before .before .before .before .at-topic .given .1) ∙ (sym (c .before .before .before .topic-at .ensures) ∙ c .before .cause .given .1)))
 
 returns-6 : tie.Need-returns-6
 unfolding withPermission withAction withQos byTopic topicFrom
 returns-6 c =
-    let a = c .before .before .before .before .before .before .before .before .before .before .before .before .before .before .before .before .before .before .before .before .before .before .before .before .before .before .before .before .before .args in
-    ap Says (c .verdict .ensures ∙ ap (verdict (c .before .before .before .before .before .before .before .before .before .before .before .before .before .before .before .before .before .before .before .before .before .before .allow .given .0 .0)) (all-hit (c .before)))
-    ∙ sym (rule-by (now (a .line)) (a .places) (a .asked) (now (a .id)) (given (a .name) (now (a .names))) (now (a .topic))
-    (sym (c .before .before .before .before .before .before .before .before .before .before .before .before .before .before .before .before .before .before .before .before .before .before .before .before .permission-at .ensures) ∙ c .before .before .before .before .before .before .before .before .before .before .before .before .before .before .before .before .before .before .before .before .before .before .allow .given .1)
-    (sym (c .before .before .before .before .before .before .before .before .before .before .before .before .before .before .before .before .before .before .before .before .action-at .ensures) ∙ c .before .before .before .before .before .before .before .before .before .before .before .before .before .before .before .before .before .before .action .given .1)
-    (qos-asked (now (a .line)) (a .asked) (a .places .qos) (c .before .before .before .before .before .before .before .before .before .before .before .before .before .before .before .before .asked-qos .ensures) (c .before .before .before .before .before .before .before .before .before .before .before .before .before .before .before .qos-at .ensures) (c .before .before .before .before .before .before .before .before .before .before .before .before .before .level .given .1))
+    let a = c .before .before .before .before .before .before .before .before .before .before .before .before .before .before .before .before .before .before .before .before .before .before .before .before .before .before .before .args in
+    ap Says (c .verdict .ensures ∙ ap (verdict (c .before .before .before .before .before .before .before .before .before .before .before .before .before .before .before .before .before .before .before .before .before .permission .given .0 .0)) (all-hit (c .before)))
+    ∙ sym (parts-by (now (a .line)) (a .parts) (a .asked) (now (a .id)) (given (a .name) (now (a .names))) (now (a .topic))
+    (c .before .before .before .before .before .before .before .before .before .before .before .before .before .before .before .before .before .before .before .before .before .permission .given .1)
+    (c .before .before .before .before .before .before .before .before .before .before .before .before .before .before .before .before .before .before .covered .given .1)
+    (qos-asked (now (a .line)) (a .asked) (a .parts .qos) (c .before .before .before .before .before .before .before .before .before .before .before .before .before .before .before .before .asked-qos .ensures) (c .before .before .before .before .before .before .before .before .before .before .before .before .before .before .before .qos-at .ensures) (c .before .before .before .before .before .before .before .before .before .before .before .before .before .level .given .1))
     (ap (topicFrom (now (a .topic)) (now (a .id)) (given (a .name) (now (a .names))) (now (a .line))) (c .before .before .before .before .before .before .before .before .before .before .at-topic .given .1) ∙ (sym (c .before .before .before .before .before .before .before .before .topic-at .ensures) ∙ c .before .before .before .before .before .before .taken .given .1)))
 
 pub rule-says-spec : {M : Type 1} → statement M
 rule-says-spec =
     tie.close
     (tie.spec
-    permission-at-requires
-    enum-known-allow
+    enum-known-permission
     enum-told
     returns
-    action-at-requires
-    enum-known-action
+    enum-known-covered
     enum-told-2
     returns-2
     asked-qos-requires

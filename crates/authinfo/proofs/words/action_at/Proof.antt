@@ -4,8 +4,8 @@ use denote.Ref.{now}
 use Rattle.authinfo.specs.Places.{actionHere}
 use Rattle.authinfo.proofs.ReadingLaws.{action-by}
 use borrow.Author.Needs.{needs}
-use Rattle.authinfo.proofs.reading.action_at.Statement.{statement}
-use Rattle.authinfo.proofs.reading.action_at.Tie as tie
+use Rattle.authinfo.proofs.words.action_at.Statement.{statement}
+use Rattle.authinfo.proofs.words.action_at.Tie as tie
 
 enum-known-at : tie.Need-enum-known-at
 enum-known-at c = search needs
