@@ -2,6 +2,7 @@
    run. store WHAT REPEATS: one row alone, for a profiler. store EVENT ROWS REPEATS: an event on a store whose F and N are ROWS, all
    used, each time on a copy of it; alike and twice are the check where all rows are alike but for their last bytes, and where two are
    equal. Linked with target/staticlib/libffi.a. */
+#include <stdbool.h>
 #include <stdint.h>
 #include <stdio.h>
 #include <stdlib.h>

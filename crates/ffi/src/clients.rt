@@ -2,7 +2,6 @@
 // Answers are the numbers of specs/Clients.antt; an optional value counts where its flag is true.
 use crate::flag;
 use crate::given_text;
-use crate::refusal_number;
 use authinfo::Expiry;
 use authinfo::ExpiryAnswer;
 use authinfo::PublishAnswer;
@@ -10,6 +9,7 @@ use authinfo::SubscribeAnswer;
 use authinfo::ask::client_publish;
 use authinfo::ask::client_subscribe;
 use authinfo::times::expired;
+use rule::refusal_number;
 ghost use mathlib.Core.Path.{_≡_};
 ghost use Prim.Native.Nat.{_+_, _*_, _≤_};
 ghost use Rattle.authinfo.specs.Decision as decision;

@@ -17,10 +17,10 @@ use questions::ask::subscribe;
 use rule::Given;
 use rule::Identity;
 use rule::Protocol;
-use rule::Refusal;
 use rule::RuleRead;
 use rule::agreement::identity;
 use rule::read::read_rule;
+use rule::refusal_number;
 use store::Opened;
 use store::opening::open;
 ghost use mathlib.Core.Path.{_≡_};
@@ -30,7 +30,6 @@ ghost use lib.ListN.{length};
 ghost use Rattle.json.specs.Json.{lineValue};
 ghost use Rattle.json.specs.Access.{isDocument, documentWithin};
 ghost use Rattle.topic.specs.Topic as spec;
-ghost use Rattle.rule.specs.Refusals.{number};
 ghost use Rattle.rule.specs.Places.{given, placedProtocol};
 ghost use Rattle.store.specs.Opening as opening;
 ghost use Rattle.store.specs.View.{view};
@@ -96,23 +95,6 @@ pub extern "C" fn acl_is_document_within(line: &[u8], most: usize) -> u8
     ensures { λ r. ⌜ r ≡ rules.yes (documentWithin most (lineValue (now (line .entry)))) ⌝ }
 {
     yes(json::values::is_document_within(line, most))
-}
-
-fn refusal_number(cause: Refusal) -> u8
-    ensures { λ r. ⌜ r ≡ number cause ⌝ }
-{
-    match cause {
-        Refusal::TooLong => 1,
-        Refusal::OutOfRange => 2,
-        Refusal::Malformed => 3,
-        Refusal::Counts => 4,
-        Refusal::NotJson => 5,
-        Refusal::NotARule => 6,
-        Refusal::FilledTooLong => 7,
-        Refusal::FiltersFull => 8,
-        Refusal::EqsFull => 9,
-        Refusal::NotesFull => 10,
-    }
 }
 
 // The number of document 01 for a rule line that is refused, 0 for a rule.

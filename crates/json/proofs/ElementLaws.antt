@@ -1,7 +1,7 @@
 -- Laws for readers that go over a line in one pass: elements one by one, an array from its elements, a line from its value. Assumes nothing.
 use Prim.Native.Nat.{ℕ, suc, _+_, _<_, max}
 use native.Mathlib.Omega.{arith}
-use mathlib.Core.Path.{_≡_, sym, ap, _∙_}
+use mathlib.Core.Path.{_≡_, refl, sym, ap, _∙_}
 use mathlib.Core.Bool.{Bool, true, false, cond}
 use mathlib.Core.List.{List}
 use mathlib.Core.Option.{Option, none, some, bind, Option·none-ne-some}
@@ -14,7 +14,7 @@ use Rattle.json.specs.Strings.{quote, stringAt}
 use Rattle.json.specs.Json.{Json, array, object, Elements, no-element, element, Members, no-member, member, Read, isAt, isBlank, skipBlanks, kindOf, textAt, readAs, separatorAt, elementAt, memberAt, nameAt, valueAt, lineValue}
 use Rattle.json.specs.Access.{stepped, valueHere, bracketed}
 use Rattle.json.specs.declared.Cursor.{Cursor}
-use Rattle.json.specs.declared.Step.the-variants.{Next}
+use Rattle.json.specs.declared.Step.the-variants.{Next, Bad}
 use Rattle.json.specs.declared.Separator.{Separator}
 use Rattle.json.specs.declared.Separator.the-variants.{Close, Comma}
 use Rattle.json.proofs.ScanLaws.{at-within, name-next}
@@ -26,6 +26,11 @@ pub record Stepped {What : Type 0} (size : What → ℕ) (before : ℕ) (o : Opt
   pub value : What
   pub is : o ≡ some (record { value = value; next = c .at })
   pub long : max before (size value) ≡ c .longest
+
+pub stepped-none : {What : Type 0} (size : What → ℕ) (before : ℕ) (o : Option (Read What)) → stepped size before o ≡ Bad → o ≡ none
+unfolding stepped
+stepped-none size before none e = refl
+stepped-none size before (some r) e = let z : _≡_ {A = ℕ} 0 1 = cc in absurd (omega arith)
 
 pub stepped-some : {What : Type 0} (size : What → ℕ) (before : ℕ) (o : Option (Read What)) {c : Cursor} → stepped size before o ≡ Next c → Stepped size before o c
 unfolding stepped

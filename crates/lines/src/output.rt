@@ -4,6 +4,7 @@ use crate::Said;
 use crate::Word;
 use json::Found;
 use rule::Refusal;
+use rule::refusal_number;
 ghost use mathlib.Core.Path.{_≡_};
 ghost use mathlib.Core.List.{_++_};
 ghost use Prim.Native.Nat.{_+_, _≤_};
@@ -35,29 +36,11 @@ pub fn malformed() -> Said
     says(Word::Error, 5)
 }
 
-// The number of document 01 for a refusal.
-pub fn refusal_number(cause: Refusal) -> u64
-    ensures { λ r. ⌜ r ≡ number cause ⌝ }
-{
-    match cause {
-        Refusal::TooLong => 1,
-        Refusal::OutOfRange => 2,
-        Refusal::Malformed => 3,
-        Refusal::Counts => 4,
-        Refusal::NotJson => 5,
-        Refusal::NotARule => 6,
-        Refusal::FilledTooLong => 7,
-        Refusal::FiltersFull => 8,
-        Refusal::EqsFull => 9,
-        Refusal::NotesFull => 10,
-    }
-}
-
 // "After error the number."
 pub fn refused(cause: Refusal) -> Said
     ensures { λ r. ⌜ r ≡ said_spec.says Error (number cause) ⌝ }
 {
-    says(Word::Error, refusal_number(cause))
+    says(Word::Error, refusal_number(cause) as u64)
 }
 
 // "The number and the line, 0 if none."
@@ -66,7 +49,7 @@ pub fn refused_at(cause: Refusal, line: usize) -> Said
 {
     Said {
         word: Word::Error,
-        number: refusal_number(cause),
+        number: refusal_number(cause) as u64,
         line: Found::Is(line as u64),
     }
 }

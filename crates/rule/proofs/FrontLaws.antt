@@ -8,23 +8,24 @@ use mathlib.Core.List.{List}
 use mathlib.Core.Option.{Option, none, some}
 use lib.Dec.{eqb, ltb}
 use lib.ListN.{length, take, drop}
-use borrow.Author.Tests.{eqb-true, ltb-true, ltb-false}
+use borrow.Author.Tests.{eqb-true, ltb-true, ltb-false, le-ltb}
 use Rattle.json.specs.Utf8.{byteAt}
-use Rattle.json.specs.Json.{Json, Read, isAt, skipBlanks, separatorAt, depthLimit, lineValue, longest}
+use Rattle.json.specs.Json.{Json, object, Read, isAt, skipBlanks, separatorAt, depthLimit, valueAt, lineValue, longest}
 use Rattle.json.specs.Access.{checked, valueHere, firstItem, afterComma, nextItem}
 use Rattle.json.specs.declared.Place.{Place}
 use Rattle.json.specs.declared.Place.the-variants.{At, Nowhere}
 use Rattle.json.specs.declared.Separator.{Separator}
 use Rattle.json.specs.declared.Separator.the-variants.{Close, Comma, Neither}
 use Rattle.json.proofs.ValueLaws.{value-deeper}
+use Rattle.json.specs.Plain.{plainText}
 use Rattle.json.proofs.PlainLaws.{Plain, plain-string, plain-value}
 use Rattle.rule.specs.Limits.{lineLimit, textLimit}
 use Rattle.rule.specs.Rule as spec
 use Rattle.rule.specs.RuleText.{gives, readRule}
 use Rattle.rule.specs.Places.{wordOf, placedRule, fourthOf, ruleAnswer, nextPart, partsHere, topicsHere, tooMany, controlOfWord, controlHere, usersOfPlace, withTopics, withControl, withUsers, ruleBehind, withAccess, accessAt, ruleHere}
 use Rattle.rule.specs.OnePass.{FromUsers, IsRule}
-use Rattle.rule.specs.Members.{UsersTo}
-use Rattle.rule.specs.Front.{accessOfWord, AccessTo, WhereAccess, itemBehind, behindUsers, FrontTo, WhereFront, topicsFound, ControlAt, WordFrom, RestFrom, WhereRest}
+use Rattle.rule.specs.Members.{MembersTo, UsersTo, usersListed}
+use Rattle.rule.specs.Front.{accessOfWord, accessTold, accessBefore, wordBetween, accessFrom, accessOf, usersBefore, usersWithin, usersUpTo, frontWith, frontBehind, frontOf, topicsBefore, restWith, wordFrom, restBehind, restOf, AccessTo, itemBehind, behindUsers, FrontTo, topicsFound, ControlAt, WordFrom, RestFrom}
 use Rattle.rule.specs.declared.Word.{Word}
 use Rattle.rule.specs.declared.Word.the-variants.{Allow, Deny, All as WordAll, Connect, Publish, Subscribe, Pubsub, Other}
 use Rattle.rule.specs.declared.Control.{Control}
@@ -33,7 +34,10 @@ use Rattle.rule.specs.declared.ControlRead.{ControlRead}
 use Rattle.rule.specs.declared.ControlRead.the-variants.{Is as ControlIs, Bad as BadControl}
 use Rattle.rule.specs.declared.Users.{Users}
 use Rattle.rule.specs.declared.UsersRead.{UsersRead}
-use Rattle.rule.specs.declared.UsersRead.the-variants.{Users as UsersAre}
+use Rattle.rule.specs.declared.UsersRead.the-variants.{Users as UsersAre, Bad as BadUsers}
+use Rattle.rule.specs.declared.UsersPassed.{UsersPassed}
+use Rattle.rule.specs.declared.UsersPassed.the-variants.{Users as PassedUsers, Unread as UnreadUsers}
+use Rattle.rule.specs.declared.MemberPlaces.{MemberPlaces}
 use Rattle.rule.specs.declared.Topics.{Topics}
 use Rattle.rule.specs.declared.Topics.the-variants.{All, Listed}
 use Rattle.rule.specs.declared.Refusal.the-variants.{TooLong, NotARule}
@@ -42,15 +46,15 @@ use Rattle.rule.specs.declared.RuleRead.{RuleRead}
 use Rattle.rule.specs.declared.RuleRead.the-variants.{Rule as RuleIs, Refused}
 use Rattle.rule.specs.declared.Parts.{Parts}
 use Rattle.rule.specs.declared.AccessPassed.{AccessPassed}
-use Rattle.rule.specs.declared.AccessPassed.the-variants.{Access}
+use Rattle.rule.specs.declared.AccessPassed.the-variants.{Access, Unread as UnreadAccess}
 use Rattle.rule.specs.declared.Front.{Front}
-use Rattle.rule.specs.declared.Front.the-variants.{Users as FrontUsers}
+use Rattle.rule.specs.declared.Front.the-variants.{Users as FrontUsers, Unread as UnreadFront}
 use Rattle.rule.specs.declared.Rest.{Rest}
 use Rattle.rule.specs.declared.Rest.the-variants.{Rest as RestIs, Unread as UnreadRest}
 use Rattle.rule.proofs.WordLaws.{word-here}
 use Rattle.rule.proofs.ReadLaws.{here-by}
 use Rattle.rule.proofs.RuleLaws.{read-long, read-invalid, read-valid}
-use Rattle.rule.proofs.OnePassLaws.{line-rule}
+use Rattle.rule.proofs.OnePassLaws.{line-rule, members-place}
 
 -- ---- the item behind a value
 
@@ -102,9 +106,115 @@ other-word {allow = allow} e q = by (sym (ap accessOfWord q) ∙ e)
     by : none ≡ some allow → ⊥
     by h = let z : _≡_ {A = ℕ} 0 1 = cc in omega arith
 
+-- by the byte that the line begins with, and by the plain word behind it
+pub access-unopened : (line : List ℕ) {p : ℕ} → p ≡ skipBlanks line 0 → isAt line p 0x5b ≡ false → accessOf line ≡ UnreadAccess
+unfolding accessOf
+access-unopened line {p} e h = rw (sym e, h)
+
+pub access-word-at : (line : List ℕ) {p at : ℕ} {o : Place} → p ≡ skipBlanks line 0 → isAt line p 0x5b ≡ true → at ≡ skipBlanks line (p + 1) → plainText line at ≡ o
+    → accessOf line ≡ accessFrom line at o
+unfolding accessOf
+access-word-at line {p} {at} e h q k = rw (sym e, h, sym q, k)
+
+pub access-behind : (line : List ℕ) {p at end : ℕ} {s : Separator} → p ≡ skipBlanks line 0 → isAt line p 0x5b ≡ true → at ≡ skipBlanks line (p + 1) → plainText line at ≡ At end
+    → separatorAt 0x5d line (end + 1) ≡ s → accessOf line ≡ accessBefore s (accessOfWord (wordOf (take (end - (at + 1)) (drop (at + 1) line))))
+unfolding accessFrom wordBetween
+access-behind line {at = at} {end} e h q k f = access-word-at line e h q k ∙ ap (λ (s : Separator). accessBefore s (accessOfWord (wordBetween line at end))) f
+
 -- where it is answered
-pub access-answered : {r : AccessPassed} {allow : Bool} {users : ℕ} (holds : Bool → ℕ → Type 0) → r ≡ Access allow users → WhereAccess r holds → holds allow users
-access-answered holds e h = subst (λ (r : AccessPassed). WhereAccess r holds) e h
+pub access-to : (line : List ℕ) {allow : Bool} {users : ℕ} → accessOf line ≡ Access allow users → AccessTo line allow users
+unfolding accessOf accessFrom accessBefore accessTold wordBetween
+access-to line {allow} {users} e = by-open (isAt line first 0x5b) refl e
+  where
+    first : ℕ
+    first = skipBlanks line 0
+
+    at : ℕ
+    at = skipBlanks line (first + 1)
+
+    no : {A : Type 0} → UnreadAccess ≡ Access allow users → A
+    no q = let z : _≡_ {A = ℕ} 0 1 = cc in absurd (omega arith)
+
+    by-word : (end : ℕ) → plainText line at ≡ At end → isAt line first 0x5b ≡ true → (s : Separator) → separatorAt 0x5d line (end + 1) ≡ s
+        → (o : Option Bool) → accessOfWord (wordBetween line at end) ≡ o → accessBefore s o ≡ Access allow users → AccessTo line allow users
+    by-word end p h (Comma next) q none w k = no k
+    by-word end p h (Comma next) q (some b) w k =
+        record {
+          first = first;
+          access = at;
+          end = end;
+          word = wordBetween line at end;
+          begins = refl;
+          opens = h;
+          behind = refl;
+          quoted = p;
+          is = refl;
+          means = w ∙ cc;
+          separated = q ∙ cc;
+        }
+    by-word end p h (Close next) q o w k = no k
+    by-word end p h Neither q o w k = no k
+
+    by-place : (o : Place) → plainText line at ≡ o → isAt line first 0x5b ≡ true → accessFrom line at o ≡ Access allow users → AccessTo line allow users
+    by-place Nowhere p h k = no k
+    by-place (At end) p h k = by-word end p h (separatorAt 0x5d line (end + 1)) refl (accessOfWord (wordBetween line at end)) refl k
+
+    by-open : (b : Bool) → isAt line first 0x5b ≡ b → cond b (accessFrom line at (plainText line at)) UnreadAccess ≡ Access allow users → AccessTo line allow users
+    by-open true h k = by-place (plainText line at) refl h k
+    by-open false h k = no k
+
+-- ---- the users
+
+-- by the value that stands there
+pub users-none : (line : List ℕ) (allow : Bool) (at : ℕ) → valueAt 7 line at ≡ none → usersUpTo line allow at ≡ UnreadUsers
+unfolding usersUpTo usersWithin
+users-none line allow at e = ap (usersWithin line allow at) e
+
+pub users-long : (line : List ℕ) (allow : Bool) (at : ℕ) {v : Json} {end : ℕ} → valueAt 7 line at ≡ some (record { value = v; next = end }) → ltb textLimit (longest v) ≡ true
+    → usersUpTo line allow at ≡ UnreadUsers
+unfolding usersUpTo usersWithin
+users-long line allow at e h = ap (usersWithin line allow at) e ∙ rw h
+
+pub users-within : (line : List ℕ) (allow : Bool) (at : ℕ) {v : Json} {end : ℕ} → valueAt 7 line at ≡ some (record { value = v; next = end }) → ltb textLimit (longest v) ≡ false
+    → usersUpTo line allow at ≡ usersBefore end (usersOfPlace line allow (At at))
+unfolding usersUpTo usersWithin
+users-within line allow at e h = ap (usersWithin line allow at) e ∙ rw h
+
+-- by the places of an object's members
+pub users-members : (line : List ℕ) (allow : Bool) (at : ℕ) {m : MemberPlaces} {end : ℕ} → MembersTo line at m end → usersUpTo line allow at ≡ usersBefore end (usersListed allow line m)
+unfolding longest
+users-members line allow at {m} {end} t =
+    users-within line allow at (t .reads) (le-ltb textLimit (longest (object (t .members))) (t .short)) ∙ ap (usersBefore end) (members-place line allow at t)
+
+-- where they are answered
+pub users-to : (line : List ℕ) (allow : Bool) (at : ℕ) {users : Users} {end : ℕ} → usersUpTo line allow at ≡ PassedUsers users end → UsersTo line allow at users end
+unfolding usersUpTo usersWithin usersBefore
+users-to line allow at {users} {end} e = by-value (valueAt 7 line at) refl e
+  where
+    no : {A : Type 0} → UnreadUsers ≡ PassedUsers users end → A
+    no q = let z : _≡_ {A = ℕ} 0 1 = cc in absurd (omega arith)
+
+    by-users : (r : Read Json) → valueAt 7 line at ≡ some r → ltb textLimit (longest (r .value)) ≡ false → (u : UsersRead) → usersOfPlace line allow (At at) ≡ u
+        → usersBefore (r .next) u ≡ PassedUsers users end → UsersTo line allow at users end
+    by-users r q h BadUsers w k = no k
+    by-users r q h (UsersAre found) w k =
+        let next : r .next ≡ end = cc in
+        let is : UsersAre found ≡ UsersAre users = cc in
+        record {
+          value = r .value;
+          reads = q ∙ (λ i. some (record { value = r .value; next = next i }));
+          short = ltb-false textLimit (longest (r .value)) h;
+          are = w ∙ is;
+        }
+
+    by-long : (r : Read Json) → valueAt 7 line at ≡ some r → (b : Bool) → ltb textLimit (longest (r .value)) ≡ b
+        → cond b UnreadUsers (usersBefore (r .next) (usersOfPlace line allow (At at))) ≡ PassedUsers users end → UsersTo line allow at users end
+    by-long r q true h k = no k
+    by-long r q false h k = by-users r q h (usersOfPlace line allow (At at)) refl k
+
+    by-value : (o : Option (Read Json)) → valueAt 7 line at ≡ o → usersWithin line allow at o ≡ PassedUsers users end → UsersTo line allow at users end
+    by-value none q k = no k
+    by-value (some r) q k = by-long r q (ltb textLimit (longest (r .value))) refl k
 
 module _ {line : List ℕ} {allow : Bool} {at : ℕ} (a : AccessTo line allow at) where
   quoted : Plain line (a .access) (a .end)
@@ -151,17 +261,6 @@ module _ {line : List ℕ} {allow : Bool} {at : ℕ} (a : AccessTo line allow at
 
 -- ---- the control
 
--- where it is answered
-pub front-answered : {r : Front} {allow : Bool} {users : Users} {end : ℕ} (holds : Bool → Users → ℕ → Type 0) → r ≡ FrontUsers allow users end → WhereFront r holds → holds allow users end
-front-answered holds e h = subst (λ (r : Front). WhereFront r holds) e h
-
-pub rest-answered : {r : Rest} {control : Control} {topics : Topics} (holds : Control → Topics → Type 0) → r ≡ RestIs control topics → WhereRest r holds → holds control topics
-rest-answered holds e h = subst (λ (r : Rest). WhereRest r holds) e h
-
-pub rest-map : {P Q : Control → Topics → Type 0} (r : Rest) → ((control : Control) (topics : Topics) → P control topics → Q control topics) → WhereRest r P → WhereRest r Q
-rest-map (RestIs control topics) f h = f control topics h
-rest-map UnreadRest f h = tt
-
 -- no control: all are meant
 pub rest-none : (line : List ℕ) (end : ℕ) {next : ℕ} → separatorAt 0x5d line end ≡ Close next → RestFrom line end AllControl All
 unfolding controlHere topicsFound nextPart separated
@@ -180,6 +279,64 @@ word-from line at {end} p w e =
       is = ap controlOfWord (word-here line at (p .string)) ∙ w;
       behind = ap topicsFound (next-behind line at (plain-value depthLimit line at p) ∙ item-by line (end + 1) e);
     }
+
+-- by the word and what stands behind it
+pub word-rest : (line : List ℕ) (at : ℕ) {end : ℕ} {c : ControlRead} {s : Separator} → plainText line at ≡ At end → controlOfWord (wordOf (take (end - (at + 1)) (drop (at + 1) line))) ≡ c → separatorAt 0x5d line (end + 1) ≡ s
+    → wordFrom line at (plainText line at) ≡ restWith s c
+unfolding wordFrom wordBetween
+word-rest line at p w q = ap (wordFrom line at) p ∙ (λ i. restWith (q i) (w i))
+
+-- where they are answered
+pub front-told : (line : List ℕ) {allow : Bool} {users : Users} {end : ℕ} → frontOf line ≡ FrontUsers allow users end → FrontTo line allow users end
+unfolding frontOf frontBehind frontWith
+front-told line {allow} {users} {end} e = by-access (accessOf line) refl e
+  where
+    no : {A : Type 0} → UnreadFront ≡ FrontUsers allow users end → A
+    no q = let z : _≡_ {A = ℕ} 0 1 = cc in absurd (omega arith)
+
+    by-users : (b : Bool) (at : ℕ) → accessOf line ≡ Access b at → (u : UsersPassed) → usersUpTo line b at ≡ u → frontWith b u ≡ FrontUsers allow users end → FrontTo line allow users end
+    by-users b at q UnreadUsers w k = no k
+    by-users b at q (PassedUsers found next) w k =
+        subst (λ (f : Front). Told f) k (front-to (access-to line q) (users-to line b at w))
+      where
+        Told : Front → Type 0
+        Told UnreadFront = Unit {0}
+        Told (FrontUsers c d n) = FrontTo line c d n
+
+    by-access : (a : AccessPassed) → accessOf line ≡ a → frontBehind line a ≡ FrontUsers allow users end → FrontTo line allow users end
+    by-access UnreadAccess q k = no k
+    by-access (Access b at) q k = by-users b at q (usersUpTo line b at) refl k
+
+pub rest-told : (line : List ℕ) (end : ℕ) {control : Control} {topics : Topics} → restOf line end ≡ RestIs control topics → RestFrom line end control topics
+unfolding restOf restBehind wordFrom restWith topicsBefore topicsFound separated wordBetween
+rest-told line end {control} {topics} e = by-rest (separatorAt 0x5d line end) refl e
+  where
+    no : {A : Type 0} → UnreadRest ≡ RestIs control topics → A
+    no q = let z : _≡_ {A = ℕ} 0 1 = cc in absurd (omega arith)
+
+    Told : Rest → Type 0
+    Told UnreadRest = Unit {0}
+    Told (RestIs c t) = RestFrom line end c t
+
+    by-topics : (at last : ℕ) → separatorAt 0x5d line end ≡ Comma at → plainText line at ≡ At last → (c : Control) → controlOfWord (wordBetween line at last) ≡ ControlIs c
+        → (s : Separator) → separatorAt 0x5d line (last + 1) ≡ s → topicsBefore c s ≡ RestIs control topics → RestFrom line end control topics
+    by-topics at last q p c w (Comma next) f k = subst Told k (rest-word line end q (word-from line at (plain-string line at p) w f))
+    by-topics at last q p c w (Close next) f k = subst Told k (rest-word line end q (word-from line at (plain-string line at p) w f))
+    by-topics at last q p c w Neither f k = no k
+
+    by-control : (at last : ℕ) → separatorAt 0x5d line end ≡ Comma at → plainText line at ≡ At last → (c : ControlRead) → controlOfWord (wordBetween line at last) ≡ c
+        → restWith (separatorAt 0x5d line (last + 1)) c ≡ RestIs control topics → RestFrom line end control topics
+    by-control at last q p BadControl w k = no k
+    by-control at last q p (ControlIs c) w k = by-topics at last q p c w (separatorAt 0x5d line (last + 1)) refl k
+
+    by-word : (at : ℕ) → separatorAt 0x5d line end ≡ Comma at → (o : Place) → plainText line at ≡ o → wordFrom line at o ≡ RestIs control topics → RestFrom line end control topics
+    by-word at q Nowhere p k = no k
+    by-word at q (At last) p k = by-control at last q p (controlOfWord (wordBetween line at last)) refl k
+
+    by-rest : (s : Separator) → separatorAt 0x5d line end ≡ s → restBehind line s ≡ RestIs control topics → RestFrom line end control topics
+    by-rest (Close next) q k = subst Told k (rest-none line end q)
+    by-rest (Comma at) q k = by-word at q (plainText line at) refl k
+    by-rest Neither q k = no k
 
 -- ---- a line that is a rule
 

@@ -47,11 +47,9 @@ use Rattle.rule.specs.Rule.{Value, nth, named, member-named, isTemplate,
 use Rattle.rule.specs.Places.{valueOf, usersAnswer, topicAnswer, isTopic, overTopics, tooMany, topicsHere, placeOf, wordOf, controlOfWord, controlHere, usersOfPlace, withTopics, withControl, withUsers, ruleBehind, withAccess, accessAt}
 use Rattle.rule.specs.OnePass.{WherePlace, PartTo, TopicTo, TopicsTo, Tail, WhereRule, FromTopics, FromControl, FromUsers, IsRule}
 use Rattle.rule.proofs.RuleLaws.{isSome, topics-here, placed, parts-placed, read-valid}
-use Rattle.rule.specs.Members.{valueBehind, usersListed, placesIn, noPlaces, MembersTo, WhereMembers, UsersTo, WhereUsers}
+use Rattle.rule.specs.Members.{valueBehind, usersListed, placesIn, noPlaces, MembersTo, WhereMembers, UsersTo}
 use Rattle.rule.specs.declared.MembersPassed.{MembersPassed}
 use Rattle.rule.specs.declared.MembersPassed.the-variants.{Places}
-use Rattle.rule.specs.declared.UsersPassed.{UsersPassed}
-use Rattle.rule.specs.declared.UsersPassed.the-variants.{Users as PassedUsers}
 use Rattle.rule.specs.declared.MemberPlaces.{MemberPlaces}
 use Rattle.rule.proofs.MemberLaws.{users-object, users-listed, places-in}
 use Rattle.rule.proofs.WordLaws.{word-long, word-here}
@@ -269,26 +267,15 @@ eq-read line at {name} {end} {p} {last} o f n e b s h q =
     u : List ℕ
     u = take (last - (p + 1)) (drop (p + 1) line)
 
--- where members' places, and users, are answered
+-- where members' places are answered
 pub members-answered : {r : MembersPassed} {m : MemberPlaces} {end : ℕ} (holds : MemberPlaces → ℕ → Type 0) → r ≡ Places m end → WhereMembers r holds → holds m end
 members-answered holds e h = subst (λ (r : MembersPassed). WhereMembers r holds) e h
 
-pub users-answered : {r : UsersPassed} {users : Users} {end : ℕ} (holds : Users → ℕ → Type 0) → r ≡ PassedUsers users end → WhereUsers r holds → holds users end
-users-answered holds e h = subst (λ (r : UsersPassed). WhereUsers r holds) e h
-
 -- the users of an object, by the places of its members
-pub members-users : (line : List ℕ) (allow : Bool) (at : ℕ) {m : MemberPlaces} {end : ℕ} {users : Users} → MembersTo line at m end → usersListed allow line m ≡ UsersAre users
-    → UsersTo line allow at users end
-unfolding longest usersOfPlace behind kindIs
-members-users line allow at {m} {end} t e =
-    record {
-      value = object (t .members);
-      reads = t .reads;
-      short = t .short;
-      are =
-          ap usersAnswer (sym (users-object allow line at (kind-is depthLimit line at there)))
-          ∙ (users-listed allow line at (ap behind there) (t .are ∙ places-in line at there) ∙ e);
-    }
+pub members-place : (line : List ℕ) (allow : Bool) (at : ℕ) {m : MemberPlaces} {end : ℕ} → MembersTo line at m end → usersOfPlace line allow (At at) ≡ usersListed allow line m
+unfolding usersOfPlace behind kindIs
+members-place line allow at {m} {end} t =
+    ap usersAnswer (sym (users-object allow line at (kind-is depthLimit line at there))) ∙ users-listed allow line at (ap behind there) (t .are ∙ places-in line at there)
   where
     there : valueHere line at ≡ some (record { value = object (t .members); next = end })
     there = value-deeper 7 depthLimit line at (omega arith) (t .reads)

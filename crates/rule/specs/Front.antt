@@ -5,18 +5,27 @@ use mathlib.Core.Path.{_≡_}
 use mathlib.Core.Bool.{Bool, true, false, cond}
 use mathlib.Core.List.{List}
 use mathlib.Core.Option.{Option, none, some}
+use lib.Dec.{ltb}
 use lib.ListN.{take, drop}
-use Rattle.json.specs.Json.{isAt, skipBlanks, separatorAt}
+use Rattle.json.specs.Json.{Json, Read, isAt, skipBlanks, separatorAt, valueAt, longest}
 use Rattle.json.specs.Plain.{plainText}
 use Rattle.json.specs.declared.Place.{Place}
 use Rattle.json.specs.declared.Place.the-variants.{At, Nowhere}
-use Rattle.json.specs.declared.Separator.the-variants.{Comma}
-use Rattle.rule.specs.Places.{wordOf, nextPart, tooMany, controlHere, withControl, ruleHere}
+use Rattle.json.specs.declared.Separator.{Separator}
+use Rattle.json.specs.declared.Separator.the-variants.{Close, Comma, Neither}
+use Rattle.rule.specs.Limits.{textLimit}
+use Rattle.rule.specs.Places.{wordOf, controlOfWord, usersOfPlace, nextPart, tooMany, controlHere, withControl, ruleHere}
 use Rattle.rule.specs.declared.Word.{Word}
 use Rattle.rule.specs.declared.Word.the-variants.{Allow, Deny, All as WordAll, Connect, Publish, Subscribe, Pubsub, Other}
 use Rattle.rule.specs.declared.Control.{Control}
-use Rattle.rule.specs.declared.ControlRead.the-variants.{Is as ControlIs}
+use Rattle.rule.specs.declared.Control.the-variants.{All as AllControl}
+use Rattle.rule.specs.declared.ControlRead.{ControlRead}
+use Rattle.rule.specs.declared.ControlRead.the-variants.{Is as ControlIs, Bad as BadControl}
 use Rattle.rule.specs.declared.Users.{Users}
+use Rattle.rule.specs.declared.UsersRead.{UsersRead}
+use Rattle.rule.specs.declared.UsersRead.the-variants.{Users as UsersAre, Bad as BadUsers}
+use Rattle.rule.specs.declared.UsersPassed.{UsersPassed}
+use Rattle.rule.specs.declared.UsersPassed.the-variants.{Users as PassedUsers, Unread as UnreadUsers}
 use Rattle.rule.specs.declared.Topics.{Topics}
 use Rattle.rule.specs.declared.Topics.the-variants.{All, Listed}
 use Rattle.rule.specs.declared.Refusal.the-variants.{TooLong}
@@ -40,6 +49,81 @@ accessOfWord Subscribe = none
 accessOfWord Pubsub = none
 accessOfWord Other = none
 
+-- an access with the place of the users, by what stands behind its word
+unfoldable pub accessTold : Option Bool → ℕ → AccessPassed
+accessTold none users = UnreadAccess
+accessTold (some allow) users = Access allow users
+
+unfoldable pub accessBefore : Separator → Option Bool → AccessPassed
+accessBefore (Comma users) access = accessTold access users
+accessBefore (Close next) access = UnreadAccess
+accessBefore Neither access = UnreadAccess
+
+-- the word of a plain string
+unfoldable pub wordBetween : List ℕ → ℕ → ℕ → Word
+wordBetween line at end = wordOf (take (end - (at + 1)) (drop (at + 1) line))
+
+unfoldable pub accessFrom : List ℕ → ℕ → Place → AccessPassed
+accessFrom line at Nowhere = UnreadAccess
+accessFrom line at (At end) = accessBefore (separatorAt 0x5d line (end + 1)) (accessOfWord (wordBetween line at end))
+
+-- the access of a line that begins an array with a plain word that is one, and the place of the users behind it
+unfoldable pub accessOf : List ℕ → AccessPassed
+accessOf line =
+    let first = skipBlanks line 0 in
+    let at = skipBlanks line (first + 1) in
+    cond (isAt line first 0x5b) (accessFrom line at (plainText line at)) UnreadAccess
+
+-- the users at a place, and the place behind them, where no string of theirs is over the limit
+unfoldable pub usersBefore : ℕ → UsersRead → UsersPassed
+usersBefore end BadUsers = UnreadUsers
+usersBefore end (UsersAre users) = PassedUsers users end
+
+unfoldable pub usersWithin : List ℕ → Bool → ℕ → Option (Read Json) → UsersPassed
+usersWithin line allow at none = UnreadUsers
+usersWithin line allow at (some r) =
+    cond (ltb textLimit (longest (r .value))) UnreadUsers (usersBefore (r .next) (usersOfPlace line allow (At at)))
+
+unfoldable pub usersUpTo : List ℕ → Bool → ℕ → UsersPassed
+usersUpTo line allow at = usersWithin line allow at (valueAt 7 line at)
+
+-- both
+unfoldable pub frontWith : Bool → UsersPassed → Front
+frontWith allow UnreadUsers = UnreadFront
+frontWith allow (PassedUsers users end) = FrontUsers allow users end
+
+unfoldable pub frontBehind : List ℕ → AccessPassed → Front
+frontBehind line UnreadAccess = UnreadFront
+frontBehind line (Access allow at) = frontWith allow (usersUpTo line allow at)
+
+unfoldable pub frontOf : List ℕ → Front
+frontOf line = frontBehind line (accessOf line)
+
+-- a control and the topics behind it: all where none stand there, else by their place; nothing where the word isn't plain or is no control
+unfoldable pub topicsBefore : Control → Separator → Rest
+topicsBefore control (Comma next) = RestIs control (Listed next)
+topicsBefore control (Close next) = RestIs control All
+topicsBefore control Neither = UnreadRest
+
+unfoldable pub restWith : Separator → ControlRead → Rest
+restWith s BadControl = UnreadRest
+restWith s (ControlIs control) = topicsBefore control s
+
+unfoldable pub wordFrom : List ℕ → ℕ → Place → Rest
+wordFrom line at Nowhere = UnreadRest
+wordFrom line at (At end) = restWith (separatorAt 0x5d line (end + 1)) (controlOfWord (wordBetween line at end))
+
+-- what stands behind users that end before a place: no control means all
+unfoldable pub restBehind : List ℕ → Separator → Rest
+restBehind line (Close next) = RestIs AllControl All
+restBehind line (Comma at) = wordFrom line at (plainText line at)
+restBehind line Neither = UnreadRest
+
+unfoldable pub restOf : List ℕ → ℕ → Rest
+restOf line end = restBehind line (separatorAt 0x5d line end)
+
+-- ---- what these are where the line is a rule
+
 -- the line begins with a plain word that is this access, and its users stand at this place
 pub record AccessTo (line : List ℕ) (allow : Bool) (users : ℕ) : Type 0 where
   pub first : ℕ
@@ -53,10 +137,6 @@ pub record AccessTo (line : List ℕ) (allow : Bool) (users : ℕ) : Type 0 wher
   pub is : wordOf (take (end - (access + 1)) (drop (access + 1) line)) ≡ word
   pub means : accessOfWord word ≡ some allow
   pub separated : separatorAt 0x5d line (end + 1) ≡ Comma users
-
-abbrev pub WhereAccess : AccessPassed → (Bool → ℕ → Type 0) → Type 0
-WhereAccess (Access allow users) holds = holds allow users
-WhereAccess UnreadAccess holds = Unit {0}
 
 -- where the item behind one that ends before this place would begin
 unfoldable pub itemBehind : List ℕ → ℕ → Place
@@ -72,10 +152,6 @@ behindUsers line allow users end =
 -- the line has this access and these users, which end before this place
 abbrev pub FrontTo : List ℕ → Bool → Users → ℕ → Type 0
 FrontTo line allow users end = ruleHere line ≡ behindUsers line allow users end
-
-abbrev pub WhereFront : Front → (Bool → Users → ℕ → Type 0) → Type 0
-WhereFront (FrontUsers allow users end) holds = holds allow users end
-WhereFront UnreadFront holds = Unit {0}
 
 -- the topics that stand at a place: where none stand, all are meant
 unfoldable pub topicsFound : Place → Topics
@@ -93,7 +169,3 @@ WordFrom line at control topics = ControlAt line (At at) control topics
 -- this control stands behind users that end before this place
 abbrev pub RestFrom : List ℕ → ℕ → Control → Topics → Type 0
 RestFrom line end control topics = ControlAt line (itemBehind line end) control topics
-
-abbrev pub WhereRest : Rest → (Control → Topics → Type 0) → Type 0
-WhereRest (RestIs control topics) holds = holds control topics
-WhereRest UnreadRest holds = Unit {0}

@@ -15,11 +15,13 @@ use json::Place;
 use json::Separator;
 use json::access::plain_text;
 use json::values::separator;
+ghost use mathlib.Core.Path.{_≡_};
+ghost use Rattle.json.specs.Plain.{plainText};
 ghost use Rattle.rule.specs.Front as spec;
 
 // The access and the users of the line, and the place behind them.
 pub fn front(line: &[u8]) -> Front
-    ensures { λ r. ⌜ spec.WhereFront r (spec.FrontTo (now (line .entry))) ⌝ }
+    ensures { λ r. ⌜ r ≡ spec.frontOf (now (line .entry)) ⌝ }
 {
     let AccessPassed::Access(allow, at) = access_end(line) else {
         return Front::Unread;
@@ -32,7 +34,7 @@ pub fn front(line: &[u8]) -> Front
 
 // The control and the topics behind users that end before this place.
 pub fn rest(line: &[u8], at: usize) -> Rest
-    ensures { λ r. ⌜ spec.WhereRest r (spec.RestFrom (now (line .entry)) at) ⌝ }
+    ensures { λ r. ⌜ r ≡ spec.restOf (now (line .entry)) at ⌝ }
 {
     match separator(line, at, b']') {
         Separator::Close(_) => Rest::Rest(Control::All, Topics::All),
@@ -43,7 +45,7 @@ pub fn rest(line: &[u8], at: usize) -> Rest
 
 // The same, from the control's place on.
 fn from_word(line: &[u8], at: usize) -> Rest
-    ensures { λ r. ⌜ spec.WhereRest r (spec.WordFrom (now (line .entry)) at) ⌝ }
+    ensures { λ r. ⌜ r ≡ spec.wordFrom (now (line .entry)) at (plainText (now (line .entry)) at) ⌝ }
 {
     let Place::At(end) = plain_text(line, at) else {
         return Rest::Unread;

@@ -9,6 +9,8 @@ pub mod topic_list;
 pub mod words;
 
 use json::Place;
+ghost use mathlib.Core.Path.{_≡_};
+ghost use Rattle.rule.specs.Refusals.{number};
 
 // The limits of document 01: bytes of a line, of a decoded string and of a client id, topics of a rule, lines of a text.
 pub const LINE: usize = 2048;
@@ -21,7 +23,7 @@ pub const TOPICS: u64 = 64;
 
 pub const LINES: usize = 256;
 
-// Why a call is refused. `number` of specs/Refusals.antt lists document 01's numbers.
+// Why a call is refused.
 pub enum Refusal {
     TooLong,
     OutOfRange,
@@ -33,6 +35,24 @@ pub enum Refusal {
     FiltersFull,
     EqsFull,
     NotesFull,
+}
+
+// The number of document 01 for a refusal, as `number` of specs/Refusals.antt lists them.
+pub fn refusal_number(cause: Refusal) -> u8
+    ensures { λ r. ⌜ r ≡ number cause ⌝ }
+{
+    match cause {
+        Refusal::TooLong => 1,
+        Refusal::OutOfRange => 2,
+        Refusal::Malformed => 3,
+        Refusal::Counts => 4,
+        Refusal::NotJson => 5,
+        Refusal::NotARule => 6,
+        Refusal::FilledTooLong => 7,
+        Refusal::FiltersFull => 8,
+        Refusal::EqsFull => 9,
+        Refusal::NotesFull => 10,
+    }
 }
 
 pub enum Control {

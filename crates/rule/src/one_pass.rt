@@ -284,7 +284,7 @@ fn members_end(line: &[u8], at: usize) -> MembersPassed
 
 // The users at this place, and the place behind them.
 pub(crate) fn users_end(line: &[u8], allow: bool, at: usize) -> UsersPassed
-    ensures { λ r. ⌜ members.WhereUsers r (members.UsersTo (now (line .entry)) allow at) ⌝ }
+    ensures { λ r. ⌜ r ≡ front.usersUpTo (now (line .entry)) allow at ⌝ }
 {
     if let MembersPassed::Places(places, end) = members_end(line, at) {
         if let UsersRead::Users(users) = users_of(line, places, allow) {
@@ -328,9 +328,25 @@ fn from_users(line: &[u8], allow: bool, at: usize) -> RuleRead
     }
 }
 
+// What a word says of the access, with the place of the users behind it.
+fn access_of(word: Word, users: usize) -> AccessPassed
+    ensures { λ r. ⌜ r ≡ front.accessTold (front.accessOfWord word) users ⌝ }
+{
+    match word {
+        Word::Allow => AccessPassed::Access(true, users),
+        Word::Deny => AccessPassed::Access(false, users),
+        Word::All => AccessPassed::Unread,
+        Word::Connect => AccessPassed::Unread,
+        Word::Publish => AccessPassed::Unread,
+        Word::Subscribe => AccessPassed::Unread,
+        Word::Pubsub => AccessPassed::Unread,
+        Word::Other => AccessPassed::Unread,
+    }
+}
+
 // The access of the line, if it is a plain word, and the place of the users.
 pub(crate) fn access_end(line: &[u8]) -> AccessPassed
-    ensures { λ r. ⌜ front.WhereAccess r (front.AccessTo (now (line .entry))) ⌝ }
+    ensures { λ r. ⌜ r ≡ front.accessOf (now (line .entry)) ⌝ }
 {
     let first = skip_blanks(line, 0);
     if !is_at(line, first, b'[') {
@@ -340,13 +356,10 @@ pub(crate) fn access_end(line: &[u8]) -> AccessPassed
     let Place::At(end) = plain_text(line, access) else {
         return AccessPassed::Unread;
     };
-    let Separator::Comma(users) = separator(line, end + 1, b']') else {
-        return AccessPassed::Unread;
-    };
-    match word_of(&line[access + 1..end]) {
-        Word::Allow => AccessPassed::Access(true, users),
-        Word::Deny => AccessPassed::Access(false, users),
-        _ => AccessPassed::Unread,
+    match separator(line, end + 1, b']') {
+        Separator::Comma(users) => access_of(word_of(&line[access + 1..end]), users),
+        Separator::Close(_) => AccessPassed::Unread,
+        Separator::Neither => AccessPassed::Unread,
     }
 }
 

@@ -2,8 +2,7 @@
 use mathlib.Core.Path.{sym, ap, _∙_}
 use denote.Ref.{now}
 use borrow.Author.Tests.{not-true, not-false}
-use Rattle.rule.specs.Front.{FrontTo, RestFrom}
-use Rattle.rule.proofs.FrontLaws.{front-answered, rest-answered}
+use Rattle.rule.proofs.FrontLaws.{front-told, rest-told}
 use Rattle.questions.specs.declared.Head.the-variants.{Agrees}
 use Rattle.questions.proofs.PassLaws.{front-differs, front-agrees}
 use borrow.Author.Needs.{needs}
@@ -34,7 +33,7 @@ enum-told-2 c = search needs
 returns-2 : tie.Need-returns-2
 returns-2 c =
     let a = c .before .before .before .before .before .before .before .before .before .before .before .before .args in
-    let told = front-answered (FrontTo (now (a .line))) (c .before .before .before .before .allow .given .1) (c .before .before .before .before .before .before .front .ensures) in
+    let told = front-told (now (a .line)) (sym (c .before .before .before .before .before .before .front .ensures) ∙ c .before .before .before .before .allow .given .1) in
     sym (front-differs (a .asked) (now (a .line)) _ _ _ _ (a .protocol) (c .before .before .before .before .before .before .before .before .before .before .before .before .pre) _ _ _ told (sym (c .before .before .identity .ensures) ∙ c .enum-told2 .given .1))
 
 rest-requires : tie.Need-rest-requires
@@ -55,8 +54,8 @@ covers-requires c κs = search needs
 returns-4 : tie.Need-returns-4
 returns-4 c =
     let a = c .before .before .before .before .before .before .before .before .before .before .before .before .before .before .before .before .before .before .before .args in
-    let told = front-answered (FrontTo (now (a .line))) (c .before .before .before .before .before .before .before .before .before .before .before .allow .given .1) (c .before .before .before .before .before .before .before .before .before .before .before .before .before .front .ensures) in
-    sym (front-agrees (a .asked) (now (a .line)) _ _ _ _ (a .protocol) (c .before .before .before .before .before .before .before .before .before .before .before .before .before .before .before .before .before .before .before .pre) _ _ _ told (sym (c .before .before .before .before .before .before .before .before .before .identity .ensures) ∙ c .before .before .before .before .before .before .before .superuser .given .1) (rest-answered (RestFrom (now (a .line)) _) (c .before .before .before .control .given .1) (c .before .before .before .before .before .rest .ensures)) (sym (c .before .covers .ensures) ∙ not-true _ (c .if1 .taken)))
+    let told = front-told (now (a .line)) (sym (c .before .before .before .before .before .before .before .before .before .before .before .before .before .front .ensures) ∙ c .before .before .before .before .before .before .before .before .before .before .before .allow .given .1) in
+    sym (front-agrees (a .asked) (now (a .line)) _ _ _ _ (a .protocol) (c .before .before .before .before .before .before .before .before .before .before .before .before .before .before .before .before .before .before .before .pre) _ _ _ told (sym (c .before .before .before .before .before .before .before .before .before .identity .ensures) ∙ c .before .before .before .before .before .before .before .superuser .given .1) (rest-told (now (a .line)) _ (sym (c .before .before .before .before .before .rest .ensures) ∙ c .before .before .before .control .given .1)) (sym (c .before .covers .ensures) ∙ not-true _ (c .if1 .taken)))
 
 asked-topics-requires : tie.Need-asked-topics-requires
 asked-topics-requires c κs = search needs
@@ -64,8 +63,8 @@ asked-topics-requires c κs = search needs
 returns-5 : tie.Need-returns-5
 returns-5 c =
     let a = c .before .before .before .before .before .before .before .before .before .before .before .before .before .before .before .before .before .before .before .before .args in
-    let told = front-answered (FrontTo (now (a .line))) (c .before .before .before .before .before .before .before .before .before .before .before .before .allow .given .1) (c .before .before .before .before .before .before .before .before .before .before .before .before .before .before .front .ensures) in
-    ap (Agrees (c .before .before .before .before .before .before .before .before .before .before .before .before .allow .given .0 .0) (c .before .before .before .before .before .before .before .before .superuser .given .0 .0)) (c .asked-topics .ensures) ∙ sym (front-agrees (a .asked) (now (a .line)) _ _ _ _ (a .protocol) (c .before .before .before .before .before .before .before .before .before .before .before .before .before .before .before .before .before .before .before .before .pre) _ _ _ told (sym (c .before .before .before .before .before .before .before .before .before .before .identity .ensures) ∙ c .before .before .before .before .before .before .before .before .superuser .given .1) (rest-answered (RestFrom (now (a .line)) _) (c .before .before .before .before .control .given .1) (c .before .before .before .before .before .before .rest .ensures)) (sym (c .before .before .covers .ensures) ∙ not-false _ (c .before .if1 .left)))
+    let told = front-told (now (a .line)) (sym (c .before .before .before .before .before .before .before .before .before .before .before .before .before .before .front .ensures) ∙ c .before .before .before .before .before .before .before .before .before .before .before .before .allow .given .1) in
+    ap (Agrees (c .before .before .before .before .before .before .before .before .before .before .before .before .allow .given .0 .0) (c .before .before .before .before .before .before .before .before .superuser .given .0 .0)) (c .asked-topics .ensures) ∙ sym (front-agrees (a .asked) (now (a .line)) _ _ _ _ (a .protocol) (c .before .before .before .before .before .before .before .before .before .before .before .before .before .before .before .before .before .before .before .before .pre) _ _ _ told (sym (c .before .before .before .before .before .before .before .before .before .before .identity .ensures) ∙ c .before .before .before .before .before .before .before .before .superuser .given .1) (rest-told (now (a .line)) _ (sym (c .before .before .before .before .before .before .rest .ensures) ∙ c .before .before .before .before .control .given .1)) (sym (c .before .before .covers .ensures) ∙ not-false _ (c .before .if1 .left)))
 
 pub front-head-spec : {M : Type 1} → statement M
 front-head-spec =

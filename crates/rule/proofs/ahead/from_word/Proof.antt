@@ -1,11 +1,11 @@
 -- The control is a plain word, with the topics behind it or the end of the array. Assumes nothing.
 use native.Mathlib.Omega.{arith}
-use mathlib.Core.Path.{sym, ap, _∙_}
+use mathlib.Core.Path.{refl, sym, ap, _∙_}
 use denote.Ref.{now}
 use Rattle.json.proofs.PlainLaws.{Plain, plain-string}
 use Rattle.rule.specs.Places.{controlOfWord}
-use Rattle.rule.specs.Front.{topicsFound}
-use Rattle.rule.proofs.FrontLaws.{separated, word-from}
+use Rattle.rule.specs.Front.{wordFrom, wordBetween, restWith, topicsBefore}
+use Rattle.rule.proofs.FrontLaws.{word-rest}
 use borrow.Author.Needs.{needs}
 use Rattle.rule.proofs.ahead.from_word.Statement.{statement}
 use Rattle.rule.proofs.ahead.from_word.Tie as tie
@@ -28,7 +28,8 @@ enum-told : tie.Need-enum-told
 enum-told c = search needs
 
 returns : tie.Need-returns
-returns c = search needs
+unfolding wordFrom
+returns c = sym (ap (wordFrom _ _) (sym (c .before .before .plain-text .ensures) ∙ c .enum-told .given .1))
 
 add-word-of : tie.Need-add-word-of
 add-word-of c = let p = found c in omega arith
@@ -55,7 +56,10 @@ enum-told-2 : tie.Need-enum-told-2
 enum-told-2 c = search needs
 
 returns-2 : tie.Need-returns-2
-returns-2 c = search needs
+unfolding restWith
+returns-2 c =
+    let a = c .before .before .before .before .before .before .before .before .before .before .args in
+    sym (word-rest (now (a .line)) (a .at) (sym (c .before .before .before .before .before .before .before .before .plain-text .ensures) ∙ c .before .before .before .before .before .before .end .given .1) (ap controlOfWord (sym (c .before .before .before .word-of .ensures)) ∙ (sym (c .before .before .control-of .ensures) ∙ c .enum-told2 .given .1)) refl)
 
 add-separator : tie.Need-add-separator
 add-separator c = let p = found (c .before .before .before .before .before .before) in omega arith
@@ -73,19 +77,22 @@ enum-told-4 : tie.Need-enum-told-4
 enum-told-4 c = search needs
 
 returns-3 : tie.Need-returns-3
-unfolding topicsFound separated
+unfolding restWith topicsBefore
 returns-3 c =
     let a = c .before .before .before .before .before .before .before .before .before .before .before .before .before .before .before .args in
-    word-from (now (a .line)) (a .at) (found (c .before .before .before .before .before .before .before .before .before .before)) (ap controlOfWord (sym (c .before .before .before .before .before .before .before .before .word-of .ensures)) ∙ (sym (c .before .before .before .before .before .before .before .control-of .ensures) ∙ c .before .before .before .before .before .control .given .1)) (sym (c .before .before .before .separator .ensures) ∙ c .before .next .given .1)
+    sym (word-rest (now (a .line)) (a .at) (sym (c .before .before .before .before .before .before .before .before .before .before .before .before .before .plain-text .ensures) ∙ c .before .before .before .before .before .before .before .before .before .before .before .end .given .1) (ap controlOfWord (sym (c .before .before .before .before .before .before .before .before .word-of .ensures)) ∙ (sym (c .before .before .before .before .before .before .before .control-of .ensures) ∙ c .before .before .before .before .before .control .given .1)) (sym (c .before .before .before .separator .ensures) ∙ c .before .next .given .1))
 
 returns-4 : tie.Need-returns-4
-unfolding topicsFound separated
+unfolding restWith topicsBefore
 returns-4 c =
     let a = c .before .before .before .before .before .before .before .before .before .before .before .before .before .before .args in
-    word-from (now (a .line)) (a .at) (found (c .before .before .before .before .before .before .before .before .before)) (ap controlOfWord (sym (c .before .before .before .before .before .before .before .word-of .ensures)) ∙ (sym (c .before .before .before .before .before .before .control-of .ensures) ∙ c .before .before .before .before .control .given .1)) (sym (c .before .before .separator .ensures) ∙ c .enum-told3 .given .1)
+    sym (word-rest (now (a .line)) (a .at) (sym (c .before .before .before .before .before .before .before .before .before .before .before .before .plain-text .ensures) ∙ c .before .before .before .before .before .before .before .before .before .before .end .given .1) (ap controlOfWord (sym (c .before .before .before .before .before .before .before .word-of .ensures)) ∙ (sym (c .before .before .before .before .before .before .control-of .ensures) ∙ c .before .before .before .before .control .given .1)) (sym (c .before .before .separator .ensures) ∙ c .enum-told3 .given .1))
 
 returns-5 : tie.Need-returns-5
-returns-5 c = search needs
+unfolding restWith topicsBefore
+returns-5 c =
+    let a = c .before .before .before .before .before .before .before .before .before .before .before .before .before .before .args in
+    sym (word-rest (now (a .line)) (a .at) (sym (c .before .before .before .before .before .before .before .before .before .before .before .before .plain-text .ensures) ∙ c .before .before .before .before .before .before .before .before .before .before .end .given .1) (ap controlOfWord (sym (c .before .before .before .before .before .before .before .word-of .ensures)) ∙ (sym (c .before .before .before .before .before .before .control-of .ensures) ∙ c .before .before .before .before .control .given .1)) (sym (c .before .before .separator .ensures) ∙ c .enum-told4 .given .1))
 
 pub from-word-spec : {M : Type 1} → statement M
 from-word-spec =

@@ -1,9 +1,7 @@
 -- The access is a plain word, and behind it the users are passed over. Assumes nothing.
 use denote.Ref.{now}
-use Rattle.rule.specs.Members.{UsersTo}
-use Rattle.rule.specs.Front.{AccessTo}
-use Rattle.rule.proofs.OnePassLaws.{users-answered}
-use Rattle.rule.proofs.FrontLaws.{access-answered, front-to}
+use mathlib.Core.Path.{sym, ap, _∙_}
+use Rattle.rule.specs.Front.{frontOf, frontBehind, frontWith}
 use borrow.Author.Needs.{needs}
 use Rattle.rule.proofs.ahead.front.Statement.{statement}
 use Rattle.rule.proofs.ahead.front.Tie as tie
@@ -18,7 +16,8 @@ enum-told : tie.Need-enum-told
 enum-told c = search needs
 
 returns : tie.Need-returns
-returns c = search needs
+unfolding frontOf frontBehind
+returns c = sym (ap (frontBehind _) (sym (c .before .before .access-end .ensures) ∙ c .enum-told .given .1))
 
 users-end-requires : tie.Need-users-end-requires
 users-end-requires c κs = search needs
@@ -30,12 +29,18 @@ enum-told-2 : tie.Need-enum-told-2
 enum-told-2 c = search needs
 
 returns-2 : tie.Need-returns-2
-returns-2 c = search needs
+unfolding frontOf frontBehind frontWith
+returns-2 c =
+    sym
+    (ap (frontBehind _) (sym (c .before .before .before .before .before .before .access-end .ensures) ∙ c .before .before .before .before .allow .given .1)
+    ∙ ap (frontWith _) (sym (c .before .before .users-end .ensures) ∙ c .enum-told2 .given .1))
 
 returns-3 : tie.Need-returns-3
+unfolding frontOf frontBehind frontWith
 returns-3 c =
-    let line = now (c .before .before .before .before .before .before .before .before .before .args .line) in
-    front-to (access-answered (AccessTo line) (c .before .before .before .before .before .allow .given .1) (c .before .before .before .before .before .before .before .access-end .ensures)) (users-answered (UsersTo line _ _) (c .before .users .given .1) (c .before .before .before .users-end .ensures))
+    sym
+    (ap (frontBehind _) (sym (c .before .before .before .before .before .before .before .access-end .ensures) ∙ c .before .before .before .before .before .allow .given .1)
+    ∙ ap (frontWith _) (sym (c .before .before .before .users-end .ensures) ∙ c .before .users .given .1))
 
 pub front-spec : {M : Type 1} → statement M
 front-spec =

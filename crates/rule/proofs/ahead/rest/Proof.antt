@@ -1,7 +1,7 @@
 -- By what stands behind the users: a control, or the end of the array. Assumes nothing.
-use mathlib.Core.Path.{sym, _∙_}
+use mathlib.Core.Path.{sym, ap, _∙_}
 use denote.Ref.{now}
-use Rattle.rule.proofs.FrontLaws.{rest-map, rest-none, rest-word}
+use Rattle.rule.specs.Front.{restOf, restBehind}
 use borrow.Author.Needs.{needs}
 use Rattle.rule.proofs.ahead.rest.Statement.{statement}
 use Rattle.rule.proofs.ahead.rest.Tie as tie
@@ -22,17 +22,17 @@ from-word-requires : tie.Need-from-word-requires
 from-word-requires c κs = search needs
 
 returns : tie.Need-returns
-returns c =
-    let a = c .before .before .before .before .args in
-    rest-none (now (a .line)) (a .at) (sym (c .before .before .separator .ensures) ∙ c .enum-told .given .1)
+unfolding restOf restBehind
+returns c = sym (ap (restBehind _) (sym (c .before .before .separator .ensures) ∙ c .enum-told .given .1))
 
 returns-2 : tie.Need-returns-2
-returns-2 c = search needs
+unfolding restOf restBehind
+returns-2 c = sym (ap (restBehind _) (sym (c .before .before .separator .ensures) ∙ c .enum-told2 .given .1))
 
 returns-3 : tie.Need-returns-3
+unfolding restOf restBehind
 returns-3 c =
-    let a = c .before .before .before .before .before .before .args in
-    rest-map (c .from-word .result) (λ control topics h. rest-word (now (a .line)) (a .at) (sym (c .before .before .before .before .separator .ensures) ∙ c .before .before .p .given .1) h) (c .from-word .ensures)
+    c .from-word .ensures ∙ sym (ap (restBehind _) (sym (c .before .before .before .before .separator .ensures) ∙ c .before .before .p .given .1))
 
 pub rest-spec : {M : Type 1} → statement M
 rest-spec =

@@ -1,12 +1,13 @@
 -- The access is a plain word, and the users stand behind it. Assumes nothing.
 use native.Mathlib.Omega.{arith}
-use mathlib.Core.Path.{refl, sym, _∙_}
+use mathlib.Core.Path.{sym, ap, _∙_}
 use denote.Ref.{now}
-use borrow.Author.Tests.{not-false}
+use borrow.Author.Tests.{not-false, not-true}
 use Rattle.json.proofs.ScanLaws.{at-within}
 use Rattle.json.proofs.PlainLaws.{Plain, plain-string}
-use Rattle.rule.specs.Front.{accessOfWord}
-use Rattle.rule.specs.declared.Word.the-variants.{Allow, Deny}
+use Rattle.rule.specs.Front.{accessFrom, accessBefore, accessTold, accessOfWord}
+use Rattle.rule.specs.declared.Word.{Word}
+use Rattle.rule.proofs.FrontLaws.{access-unopened, access-word-at, access-behind}
 use borrow.Author.Needs.{needs}
 use Rattle.rule.proofs.one_pass.access_end.Statement.{statement}
 use Rattle.rule.proofs.one_pass.access_end.Tie as tie
@@ -22,7 +23,7 @@ is-at-requires : tie.Need-is-at-requires
 is-at-requires c κs = search needs
 
 returns : tie.Need-returns
-returns c = search needs
+returns c = sym (access-unopened _ (c .before .before .skip-blanks .ensures) (sym (c .before .is-at .ensures) ∙ not-true _ (c .if1 .taken)))
 
 add-skip-blanks : tie.Need-add-skip-blanks
 add-skip-blanks c =
@@ -42,7 +43,8 @@ enum-told : tie.Need-enum-told
 enum-told c = search needs
 
 returns-2 : tie.Need-returns-2
-returns-2 c = search needs
+unfolding accessFrom
+returns-2 c = sym (access-word-at (now (c .before .before .before .before .before .before .before .before .args .line)) (c .before .before .before .before .before .before .skip-blanks .ensures) (sym (c .before .before .before .before .before .is-at .ensures) ∙ not-false _ (c .before .before .before .before .if1 .left)) (c .before .before .before .skip-blanks2 .ensures) (sym (c .before .before .plain-text .ensures) ∙ c .enum-told .given .1))
 
 add-separator : tie.Need-add-separator
 add-separator c = let p = found c in omega arith
@@ -52,9 +54,6 @@ separator-requires c κs = search needs
 
 enum-known-users : tie.Need-enum-known-users
 enum-known-users c = search needs
-
-returns-3 : tie.Need-returns-3
-returns-3 c = search needs
 
 add-word-of : tie.Need-add-word-of
 add-word-of c = let p = found (c .before .before .before .before) in omega arith
@@ -71,50 +70,29 @@ part-word-of-end c = let p = found (c .before .before .before .before) in omega 
 word-of-requires : tie.Need-word-of-requires
 word-of-requires c κs = search needs
 
+access-of-requires : tie.Need-access-of-requires
+access-of-requires c κs = search needs
+
 enum-told-2 : tie.Need-enum-told-2
 enum-told-2 c = search needs
 
 enum-told-3 : tie.Need-enum-told-3
 enum-told-3 c = search needs
 
+returns-3 : tie.Need-returns-3
+unfolding accessBefore
+returns-3 c =
+    c .access-of .ensures
+    ∙ (ap (λ (w : Word). accessTold (accessOfWord w) (c .before .before .before .before .users .given .0 .0)) (c .before .word-of .ensures)
+    ∙ sym (access-behind (now (c .before .before .before .before .before .before .before .before .before .before .before .before .before .before .before .before .args .line)) (c .before .before .before .before .before .before .before .before .before .before .before .before .before .before .skip-blanks .ensures) (sym (c .before .before .before .before .before .before .before .before .before .before .before .before .before .is-at .ensures) ∙ not-false _ (c .before .before .before .before .before .before .before .before .before .before .before .before .if1 .left)) (c .before .before .before .before .before .before .before .before .before .before .before .skip-blanks2 .ensures) (sym (c .before .before .before .before .before .before .before .before .before .before .plain-text .ensures) ∙ c .before .before .before .before .before .before .before .before .end .given .1) (sym (c .before .before .before .before .before .before .separator .ensures) ∙ c .before .before .before .before .users .given .1)))
+
 returns-4 : tie.Need-returns-4
-unfolding accessOfWord
-returns-4 c =
-    let line = now (c .before .before .before .before .before .before .before .before .before .before .before .before .before .before .before .before .before .args .line) in
-    record {
-      first = c .before .before .before .before .before .before .before .before .before .before .before .before .before .before .before .skip-blanks .result;
-      access = c .before .before .before .before .before .before .before .before .before .before .before .before .skip-blanks2 .result;
-      end = c .before .before .before .before .before .before .before .before .before .end .given .0 .0;
-      word = Allow;
-      begins = c .before .before .before .before .before .before .before .before .before .before .before .before .before .before .before .skip-blanks .ensures;
-      opens = sym (c .before .before .before .before .before .before .before .before .before .before .before .before .before .before .is-at .ensures) ∙ not-false _ (c .before .before .before .before .before .before .before .before .before .before .before .before .before .if1 .left);
-      behind = c .before .before .before .before .before .before .before .before .before .before .before .before .skip-blanks2 .ensures;
-      quoted = sym (c .before .before .before .before .before .before .before .before .before .before .before .plain-text .ensures) ∙ c .before .before .before .before .before .before .before .before .before .end .given .1;
-      is = sym (c .before .before .word-of .ensures) ∙ c .enum-told2 .given .1;
-      means = refl;
-      separated = sym (c .before .before .before .before .before .before .before .separator .ensures) ∙ c .before .before .before .before .before .users .given .1;
-    }
+unfolding accessBefore
+returns-4 c = sym (access-behind (now (c .before .before .before .before .before .before .before .before .before .before .before .before .args .line)) (c .before .before .before .before .before .before .before .before .before .before .skip-blanks .ensures) (sym (c .before .before .before .before .before .before .before .before .before .is-at .ensures) ∙ not-false _ (c .before .before .before .before .before .before .before .before .if1 .left)) (c .before .before .before .before .before .before .before .skip-blanks2 .ensures) (sym (c .before .before .before .before .before .before .plain-text .ensures) ∙ c .before .before .before .before .end .given .1) (sym (c .before .before .separator .ensures) ∙ c .enum-told2 .given .1))
 
 returns-5 : tie.Need-returns-5
-unfolding accessOfWord
-returns-5 c =
-    let line = now (c .before .before .before .before .before .before .before .before .before .before .before .before .before .before .before .before .before .args .line) in
-    record {
-      first = c .before .before .before .before .before .before .before .before .before .before .before .before .before .before .before .skip-blanks .result;
-      access = c .before .before .before .before .before .before .before .before .before .before .before .before .skip-blanks2 .result;
-      end = c .before .before .before .before .before .before .before .before .before .end .given .0 .0;
-      word = Deny;
-      begins = c .before .before .before .before .before .before .before .before .before .before .before .before .before .before .before .skip-blanks .ensures;
-      opens = sym (c .before .before .before .before .before .before .before .before .before .before .before .before .before .before .is-at .ensures) ∙ not-false _ (c .before .before .before .before .before .before .before .before .before .before .before .before .before .if1 .left);
-      behind = c .before .before .before .before .before .before .before .before .before .before .before .before .skip-blanks2 .ensures;
-      quoted = sym (c .before .before .before .before .before .before .before .before .before .before .before .plain-text .ensures) ∙ c .before .before .before .before .before .before .before .before .before .end .given .1;
-      is = sym (c .before .before .word-of .ensures) ∙ c .enum-told3 .given .1;
-      means = refl;
-      separated = sym (c .before .before .before .before .before .before .before .separator .ensures) ∙ c .before .before .before .before .before .users .given .1;
-    }
-
-returns-6 : tie.Need-returns-6
-returns-6 c = search needs
+unfolding accessBefore
+returns-5 c = sym (access-behind (now (c .before .before .before .before .before .before .before .before .before .before .before .before .args .line)) (c .before .before .before .before .before .before .before .before .before .before .skip-blanks .ensures) (sym (c .before .before .before .before .before .before .before .before .before .is-at .ensures) ∙ not-false _ (c .before .before .before .before .before .before .before .before .if1 .left)) (c .before .before .before .before .before .before .before .skip-blanks2 .ensures) (sym (c .before .before .before .before .before .before .plain-text .ensures) ∙ c .before .before .before .before .end .given .1) (sym (c .before .before .separator .ensures) ∙ c .enum-told3 .given .1))
 
 pub access-end-spec : {M : Type 1} → statement M
 access-end-spec =
@@ -132,14 +110,14 @@ access-end-spec =
     add-separator
     separator-requires
     enum-known-users
-    returns-3
     add-word-of
     sub-word-of
     part-word-of-start
     part-word-of-end
     word-of-requires
+    access-of-requires
     enum-told-2
     enum-told-3
+    returns-3
     returns-4
-    returns-5
-    returns-6)
+    returns-5)

@@ -1,8 +1,8 @@
 -- The users stand first, with the control behind them or the line's end. Assumes nothing.
 use mathlib.Core.Path.{sym, _∙_}
 use denote.Ref.{now}
-use Rattle.rule.specs.Members.{UsersTo}
-use Rattle.rule.proofs.OnePassLaws.{users-answered, rule-map, users-last, users-more}
+use Rattle.rule.proofs.OnePassLaws.{rule-map, users-last, users-more}
+use Rattle.rule.proofs.FrontLaws.{users-to}
 use borrow.Author.Needs.{needs}
 use Rattle.rule.proofs.one_pass.from_users.Statement.{statement}
 use Rattle.rule.proofs.one_pass.from_users.Tie as tie
@@ -43,7 +43,7 @@ enum-told-2 c = search needs
 returns-3 : tie.Need-returns-3
 returns-3 c =
     let a = c .before .before .before .before .before .before .before .before .before .before .args in
-    let t = users-answered (UsersTo (now (a .line)) (a .allow) (a .at)) (c .before .before .before .before .before .before .users .given .1) (c .before .before .before .before .before .before .before .before .users-end .ensures) in
+    let t = users-to (now (a .line)) (a .allow) (a .at) (sym (c .before .before .before .before .before .before .before .before .users-end .ensures) ∙ c .before .before .before .before .before .before .users .given .1) in
     rule-map (c .from-control .result)
     (λ rule h. users-more (now (a .line)) (a .allow) (a .at) (t .reads) (t .short) (t .are) (sym (c .before .before .before .before .separator .ensures) ∙ c .before .before .next .given .1) h)
     (c .from-control .ensures)
@@ -51,7 +51,7 @@ returns-3 c =
 returns-4 : tie.Need-returns-4
 returns-4 c =
     let a = c .before .before .before .before .before .before .before .before .before .before .before .args in
-    let t = users-answered (UsersTo (now (a .line)) (a .allow) (a .at)) (c .before .before .before .before .before .before .before .users .given .1) (c .before .before .before .before .before .before .before .before .before .users-end .ensures) in
+    let t = users-to (now (a .line)) (a .allow) (a .at) (sym (c .before .before .before .before .before .before .before .before .before .users-end .ensures) ∙ c .before .before .before .before .before .before .before .users .given .1) in
     users-last (now (a .line)) (a .allow) (a .at) (t .reads) (t .short) (t .are) (sym (c .before .before .before .before .before .separator .ensures) ∙ c .before .before .before .next2 .given .1)
     (c .before .skip-blanks .ensures) (c .if1 .left)
 

@@ -1,8 +1,8 @@
 -- The access is a plain word, and the rest is read from the users on. Assumes nothing.
+use mathlib.Core.Path.{sym, _∙_}
 use denote.Ref.{now}
-use Rattle.rule.specs.Front.{AccessTo}
 use Rattle.rule.proofs.OnePassLaws.{rule-map}
-use Rattle.rule.proofs.FrontLaws.{access-answered, access-rule}
+use Rattle.rule.proofs.FrontLaws.{access-to, access-rule}
 use borrow.Author.Needs.{needs}
 use Rattle.rule.proofs.one_pass.in_one_pass.Statement.{statement}
 use Rattle.rule.proofs.one_pass.in_one_pass.Tie as tie
@@ -25,7 +25,7 @@ from-users-requires c κs = search needs
 returns-2 : tie.Need-returns-2
 returns-2 c =
     let line = now (c .before .before .before .before .before .before .args .line) in
-    rule-map (c .from-users .result) (λ rule h. access-rule (access-answered (AccessTo line) (c .before .before .allow .given .1) (c .before .before .before .before .access-end .ensures)) h) (c .from-users .ensures)
+    rule-map (c .from-users .result) (λ rule h. access-rule (access-to line (sym (c .before .before .before .before .access-end .ensures) ∙ c .before .before .allow .given .1)) h) (c .from-users .ensures)
 
 pub in-one-pass-spec : {M : Type 1} → statement M
 in-one-pass-spec =

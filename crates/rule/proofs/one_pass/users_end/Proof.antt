@@ -1,12 +1,16 @@
 -- An object's members are passed over once; another value is passed over and then read. Assumes nothing.
 use native.Mathlib.Omega.{arith}
-use mathlib.Core.Path.{sym, _∙_}
+use mathlib.Core.Path.{sym, ap, _∙_}
 use denote.Ref.{now}
 use Rattle.json.specs.Json.{longest}
-use Rattle.json.proofs.ElementLaws.{stepped-some}
+use borrow.Author.Tests.{lt-ltb, le-ltb}
+use Rattle.json.proofs.ElementLaws.{stepped-none, stepped-some}
+use Rattle.rule.specs.Limits.{textLimit}
 use Rattle.rule.specs.Places.{usersOfPlace}
 use Rattle.rule.specs.Members.{MembersTo}
-use Rattle.rule.proofs.OnePassLaws.{members-answered, members-users}
+use Rattle.rule.specs.Front.{usersBefore}
+use Rattle.rule.proofs.OnePassLaws.{members-answered}
+use Rattle.rule.proofs.FrontLaws.{users-none, users-long, users-within, users-members}
 use borrow.Author.Needs.{needs}
 use Rattle.rule.proofs.one_pass.users_end.Statement.{statement}
 use Rattle.rule.proofs.one_pass.users_end.Tie as tie
@@ -24,16 +28,23 @@ enum-known-users : tie.Need-enum-known-users
 enum-known-users c = search needs
 
 returns : tie.Need-returns
+unfolding usersBefore
 returns c =
     let a = c .before .before .before .before .before .before .before .before .before .args in
-    members-users (now (a .line)) (a .allow) (a .at) (members-answered (MembersTo (now (a .line)) (a .at)) (c .before .before .before .before .before .places .given .1) (c .before .before .before .before .before .before .before .members-end .ensures))
-    (sym (c .before .before .before .users-of .ensures) ∙ c .before .users .given .1)
+    sym
+    (users-members (now (a .line)) (a .allow) (a .at) (members-answered (MembersTo (now (a .line)) (a .at)) (c .before .before .before .before .before .places .given .1) (c .before .before .before .before .before .before .before .members-end .ensures))
+    ∙ ap (usersBefore _) (sym (c .before .before .before .users-of .ensures) ∙ c .before .users .given .1))
 
 enum-told : tie.Need-enum-told
 enum-told c = search needs
 
 returns-2 : tie.Need-returns-2
-returns-2 c = search needs
+unfolding usersBefore
+returns-2 c =
+    let a = c .before .before .before .before .before .before .before .before .args in
+    sym
+    (users-members (now (a .line)) (a .allow) (a .at) (members-answered (MembersTo (now (a .line)) (a .at)) (c .before .before .before .before .places .given .1) (c .before .before .before .before .before .before .members-end .ensures))
+    ∙ ap (usersBefore _) (sym (c .before .before .users-of .ensures) ∙ c .enum-told .given .1))
 
 enum-told-2 : tie.Need-enum-told-2
 enum-told-2 c = search needs
@@ -48,10 +59,15 @@ enum-told-3 : tie.Need-enum-told-3
 enum-told-3 c = search needs
 
 returns-3 : tie.Need-returns-3
-returns-3 c = search needs
+returns-3 c =
+    let a = c .before .before .before .before .before .before .before .args in
+    sym (users-none (now (a .line)) (a .allow) (a .at) (stepped-none longest 0 _ (sym (c .before .before .value .ensures) ∙ c .enum-told3 .given .1)))
 
 returns-4 : tie.Need-returns-4
-returns-4 c = search needs
+returns-4 c =
+    let a = c .before .before .before .before .before .before .before .before .before .before .args in
+    let r = stepped-some longest 0 _ (sym (c .before .before .before .before .before .value .ensures) ∙ c .before .before .before .c .given .1) in
+    sym (users-long (now (a .line)) (a .allow) (a .at) (r .is) (lt-ltb textLimit (longest (r .value)) (omega (arith, r .long, c .if1 .taken))))
 
 users-at-requires : tie.Need-users-at-requires
 users-at-requires c κs = search needs
@@ -63,18 +79,22 @@ enum-told-4 : tie.Need-enum-told-4
 enum-told-4 c = search needs
 
 returns-5 : tie.Need-returns-5
-returns-5 c = search needs
+unfolding usersBefore usersOfPlace
+returns-5 c =
+    let a = c .before .before .before .before .before .before .before .before .before .before .before .before .before .args in
+    let r = stepped-some longest 0 _ (sym (c .before .before .before .before .before .before .before .before .value .ensures) ∙ c .before .before .before .before .before .before .c .given .1) in
+    sym
+    (users-within (now (a .line)) (a .allow) (a .at) (r .is) (le-ltb textLimit (longest (r .value)) (omega (arith, r .long, c .before .before .before .if1 .left)))
+    ∙ ap (usersBefore _) (sym (c .before .before .users-at .ensures) ∙ c .enum-told4 .given .1))
 
 returns-6 : tie.Need-returns-6
-unfolding usersOfPlace
+unfolding usersBefore usersOfPlace
 returns-6 c =
+    let a = c .before .before .before .before .before .before .before .before .before .before .before .before .before .before .args in
     let r = stepped-some longest 0 _ (sym (c .before .before .before .before .before .before .before .before .before .value .ensures) ∙ c .before .before .before .before .before .before .before .c .given .1) in
-    record {
-      value = r .value;
-      reads = r .is;
-      short = omega (arith, r .long, c .before .before .before .before .if1 .left);
-      are = sym (c .before .before .before .users-at .ensures) ∙ c .before .users2 .given .1;
-    }
+    sym
+    (users-within (now (a .line)) (a .allow) (a .at) (r .is) (le-ltb textLimit (longest (r .value)) (omega (arith, r .long, c .before .before .before .before .if1 .left)))
+    ∙ ap (usersBefore _) (sym (c .before .before .before .users-at .ensures) ∙ c .before .users2 .given .1))
 
 pub users-end-spec : {M : Type 1} → statement M
 users-end-spec =

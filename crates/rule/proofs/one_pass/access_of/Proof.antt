@@ -1,8 +1,8 @@
--- Each arm computes. Assumes nothing.
-use Rattle.rule.specs.Refusals.{number}
+-- Word by word. Assumes nothing.
+use Rattle.rule.specs.Front.{accessOfWord, accessTold}
 use borrow.Author.Needs.{needs}
-use Rattle.ffi.proofs.refusal_number.Statement.{statement}
-use Rattle.ffi.proofs.refusal_number.Tie as tie
+use Rattle.rule.proofs.one_pass.access_of.Statement.{statement}
+use Rattle.rule.proofs.one_pass.access_of.Tie as tie
 
 enum-told : tie.Need-enum-told
 enum-told c = search needs
@@ -28,54 +28,40 @@ enum-told-7 c = search needs
 enum-told-8 : tie.Need-enum-told-8
 enum-told-8 c = search needs
 
-enum-told-9 : tie.Need-enum-told-9
-enum-told-9 c = search needs
-
-enum-told-10 : tie.Need-enum-told-10
-enum-told-10 c = search needs
-
 returns : tie.Need-returns
-unfolding number
+unfolding accessTold accessOfWord
 returns c = rw (c .enum-told .given .1)
 
 returns-2 : tie.Need-returns-2
-unfolding number
+unfolding accessTold accessOfWord
 returns-2 c = rw (c .enum-told2 .given .1)
 
 returns-3 : tie.Need-returns-3
-unfolding number
+unfolding accessTold accessOfWord
 returns-3 c = rw (c .enum-told3 .given .1)
 
 returns-4 : tie.Need-returns-4
-unfolding number
+unfolding accessTold accessOfWord
 returns-4 c = rw (c .enum-told4 .given .1)
 
 returns-5 : tie.Need-returns-5
-unfolding number
+unfolding accessTold accessOfWord
 returns-5 c = rw (c .enum-told5 .given .1)
 
 returns-6 : tie.Need-returns-6
-unfolding number
+unfolding accessTold accessOfWord
 returns-6 c = rw (c .enum-told6 .given .1)
 
 returns-7 : tie.Need-returns-7
-unfolding number
+unfolding accessTold accessOfWord
 returns-7 c = rw (c .enum-told7 .given .1)
 
 returns-8 : tie.Need-returns-8
-unfolding number
+unfolding accessTold accessOfWord
 returns-8 c = rw (c .enum-told8 .given .1)
 
-returns-9 : tie.Need-returns-9
-unfolding number
-returns-9 c = rw (c .enum-told9 .given .1)
-
-returns-10 : tie.Need-returns-10
-unfolding number
-returns-10 c = rw (c .enum-told10 .given .1)
-
-pub refusal-number-spec : {M : Type 1} → statement M
-refusal-number-spec =
+pub access-of-spec : {M : Type 1} → statement M
+access-of-spec =
     tie.close
     (tie.spec
     enum-told
@@ -86,8 +72,6 @@ refusal-number-spec =
     enum-told-6
     enum-told-7
     enum-told-8
-    enum-told-9
-    enum-told-10
     returns
     returns-2
     returns-3
@@ -95,6 +79,4 @@ refusal-number-spec =
     returns-5
     returns-6
     returns-7
-    returns-8
-    returns-9
-    returns-10)
+    returns-8)

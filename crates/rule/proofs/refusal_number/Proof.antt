@@ -1,8 +1,8 @@
 -- Each arm computes. Assumes nothing.
 use Rattle.rule.specs.Refusals.{number}
 use borrow.Author.Needs.{needs}
-use Rattle.lines.proofs.output.refusal_number.Statement.{statement}
-use Rattle.lines.proofs.output.refusal_number.Tie as tie
+use Rattle.rule.proofs.refusal_number.Statement.{statement}
+use Rattle.rule.proofs.refusal_number.Tie as tie
 
 enum-told : tie.Need-enum-told
 enum-told c = search needs
