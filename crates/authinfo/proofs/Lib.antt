@@ -1,5 +1,6 @@
 pub mod MemberLaws
 pub mod OnePassLaws
+pub mod WordLaws
 pub mod ReadingLaws
 pub mod FillingLaws
 pub mod AskLaws

@@ -4,3 +4,4 @@ pub mod Answers
 pub mod Expiry
 pub mod Places
 pub mod OnePass
+pub mod Filling

@@ -17,10 +17,16 @@ ghost use Rattle.rule.specs.declared.Given.«the-variants».{Length};
 ghost use Rattle.authinfo.specs.ClientRule as rule;
 ghost use Rattle.authinfo.specs.Decision as decision;
 ghost use Rattle.authinfo.specs.Places as spec;
+ghost use Rattle.authinfo.specs.Filling as words;
+ghost use Prim.Native.Nat.{_+_, _≤_};
+ghost use lib.ListN.{length};
 
 const USERNAME: [u8; 11] = *b"${username}";
 
 const CLIENTID: [u8; 11] = *b"${clientid}";
+
+// The bytes of either word.
+const WORD: usize = 11;
 
 // A topic of 256 bytes has 23 places of 11 bytes for a user name of 64: 1,475 bytes at the most, and this bound is simpler to see.
 const BETWEEN: usize = 1489;
@@ -65,8 +71,79 @@ fn part(names: &[u8], n: usize) -> &[u8]
     names
 }
 
-// The configured text, without its `eq `, with the user name for `${username}`, then the client id for `${clientid}`.
+// The place of the first `$` from `at` on; the text's end where there is none.
+fn dollar_from(text: &[u8], at: usize) -> usize
+    ensures { λ r. ⌜ r ≡ words.dollarFrom (now (text .entry)) at ⌝ }
+{
+    let mut i = at;
+    while i < text.len() {
+        if text[i] == b'$' {
+            return i;
+        }
+        i += 1;
+    }
+    i
+}
+
+// Does the word stand at this place, with no `$` behind it?
+fn stands_last(text: &[u8], at: usize, word: &[u8; WORD]) -> bool
+    requires { ⌜ at ≤ length (now text) ⌝ }
+    ensures { λ r. ⌜ r ≡ words.standsLast (now (text .entry)) at (now (word .entry)) ⌝ }
+{
+    if !text::begins(&text[at..], word) {
+        return false;
+    }
+    dollar_from(text, at + WORD) == text.len()
+}
+
+// The text, with `new` for the word at this place.
+fn with_word(text: &[u8], at: usize, new: &[u8], eq: bool, topic: &[u8]) -> TopicRead
+    requires { ⌜ spec.Short (now text) ⌝ }
+    requires { ⌜ at + 11 ≤ length (now text) ⌝ }
+    ensures { λ r. ⌜ r ≡ spec.takenBy (now (topic .entry)) (rule.filledTopic eq (some (words.wordPut (now (text .entry)) at (now (new .entry))))) ⌝ }
+{
+    let kept = text.len() - WORD;
+    if TEXT - kept < new.len() {
+        return TopicRead::Refused(Refusal::FilledTooLong);
+    }
+    let mut filled = [0u8; TEXT];
+    text::paste(&text[..at], &mut filled, 0);
+    text::paste(new, &mut filled, at);
+    text::paste(&text[at + WORD..], &mut filled, at + new.len());
+    taken(&filled[..kept + new.len()], eq, topic)
+}
+
+// The configured text, without its `eq `, filled. Most have no `$`, or one, at which one of the words stands.
 fn filled(
+    configured: &[u8],
+    eq: bool,
+    id: &[u8],
+    name: Given,
+    names: &[u8],
+    topic: &[u8],
+) -> TopicRead
+    requires { ⌜ decision.nameOver (given name (now names)) ≡ false ⌝ }
+    requires { ⌜ spec.Short (now configured) ⌝ }
+    ensures { λ r. ⌜ r ≡ spec.takenBy (now (topic .entry)) (rule.filledTopic eq (rule.fillFor (now (id .entry)) (given name (now (names .entry))) (now (configured .entry)))) ⌝ }
+{
+    let at = dollar_from(configured, 0);
+    if at == configured.len() {
+        return taken(configured, eq, topic);
+    }
+    if stands_last(configured, at, &CLIENTID) {
+        return with_word(configured, at, id, eq, topic);
+    }
+    if stands_last(configured, at, &USERNAME) {
+        let Given::Length(n) = name else {
+            return TopicRead::Refused(Refusal::NotARule);
+        };
+        return with_word(configured, at, part(names, n), eq, topic);
+    }
+    filled_in_turn(configured, eq, id, name, names, topic)
+}
+
+// The configured text, without its `eq `, with the user name for `${username}`, then the client id for `${clientid}`.
+fn filled_in_turn(
     configured: &[u8],
     eq: bool,
     id: &[u8],
