@@ -9,6 +9,9 @@ use Rattle.lines.proofs.output.refused.Tie as tie
 refusal-number-requires : tie.Need-refusal-number-requires
 refusal-number-requires c κs = search needs
 
+cast-says : tie.Need-cast-says
+cast-says c = search needs
+
 says-requires : tie.Need-says-requires
 says-requires c κs = search needs
 
@@ -16,4 +19,4 @@ returns : tie.Need-returns
 returns c = c .says .ensures ∙ ap (says Error) (c .before .refusal-number .ensures)
 
 pub refused-spec : {M : Type 1} → statement M
-refused-spec = tie.close (tie.spec refusal-number-requires says-requires returns)
+refused-spec = tie.close (tie.spec refusal-number-requires cast-says says-requires returns)
