@@ -1,7 +1,7 @@
 -- Laws of the pass over a line's members: what each of its steps tells. Assumes nothing.
 use Prim.Native.Nat.{ℕ, _+_, _-_, _≤_}
 use native.Mathlib.Omega.{arith}
-use mathlib.Core.Path.{_≡_, refl, sym, ap, subst, _∙_}
+use mathlib.Core.Path.{_≡_, refl, sym, ap, _∙_}
 use mathlib.Core.Bool.{Bool, true, false, cond}
 use mathlib.Core.List.{List}
 use mathlib.Core.Option.{some}
@@ -10,7 +10,6 @@ use Rattle.text.specs.Ascii.{ascii}
 use Rattle.text.specs.Text.{same}
 use Rattle.json.specs.Json.{text, object, Members, isAt, skipBlanks, separatorAt, longest, longestMember}
 use Rattle.json.specs.Access.{valueHere, stringIs, lastNamed, namedIn, memberNamed}
-use Rattle.json.specs.Plain.{plainText}
 use Rattle.json.specs.declared.Separator.the-variants.{Close, Comma}
 use Rattle.json.specs.declared.Place.{Place}
 use Rattle.json.specs.declared.Place.the-variants.{At, Nowhere}
@@ -69,6 +68,7 @@ module _ (line : List ℕ) (at : ℕ) {end : ℕ} (p : Plain line at end) where
 
 -- ---- one member more
 
+-- the places with that of one member more: its name, and the place of its value
 unfoldable pub withNamed : List ℕ → ℕ → RulePlaces → RulePlaces
 withNamed name p m =
     record {
@@ -79,7 +79,7 @@ withNamed name p m =
       topic = cond (same name (ascii "topic")) (At p) (m .topic);
     }
 
--- the chosen place tells what the chosen one of two would
+-- what the chosen place tells is chosen as the place is
 chosen : {A : Type 0} (f : Place → A) (b : Bool) (p : ℕ) (before : Place) → cond b (f (At p)) (f before) ≡ f (cond b (At p) before)
 chosen f true p before = refl
 chosen f false p before = refl
@@ -130,7 +130,8 @@ pub record ObjectTo (line : List ℕ) (at : ℕ) (m : RulePlaces) (end : ℕ) : 
   pub short : longestMember members ≤ textLimit
   pub are : m ≡ placesIn members noPlaces
 
--- what was told so far: if members stand from a place on up to another, then the object's do, and their places come behind those of which it is told
+-- what was found of the object's members before a place: where members stand from there on, the object ends behind them, and their places
+-- come behind those that were found
 pub record Passed (line : List ℕ) (at : ℕ) (found : RuleParts) (i : ℕ) : Type 0 where
   pub places : RulePlaces
   pub tells : found ≡ partsAt line places

@@ -5,13 +5,13 @@ use native.Mathlib.Omega.{arith}
 use mathlib.Core.Path.{_≡_, refl, sym, ap, subst, _∙_}
 use mathlib.Core.Bool.{Bool, true, false, _&&_, _||_, cond}
 use mathlib.Core.List.{List, [], _∷_, _++_, append-nil}
-use mathlib.Core.Option.{Option, some, Option·map}
+use mathlib.Core.Option.{Option, some}
 use lib.Dec.{eqb}
-use lib.ListN.{length, getD, take, drop, drop-of-length-le, length-append, length-take, length-drop}
+use lib.ListN.{length, getD, take, drop, drop-of-length-le, length-append, length-drop}
 use lib.Seq.{drop-cons, drop-drop, length-take-le}
 use borrow.Author.Tests.{eqb-true, eqb-false, eq-eqb, ne-eqb}
 use Rattle.text.specs.Ascii.{ascii}
-use Rattle.text.specs.Text.{begins, contains, occurs, replace, pasted, written}
+use Rattle.text.specs.Text.{begins, contains, occurs, replace, pasted}
 use Rattle.text.proofs.Laws.{and-split, begins-split, begins-length, contains-begins, occurs-false, replace-occurrence, replace-other, replace-absent, Wrote, wrote-none, wrote-lengths, wrote-part, wrote-all, written-take, pasted-fits}
 use Rattle.rule.specs.Limits.{textLimit}
 use Rattle.authinfo.specs.ClientRule.{username, clientid, putIf, fillFor}

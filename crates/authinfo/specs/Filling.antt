@@ -18,10 +18,14 @@ beforeDollar (b ∷ text) = cond (eqb b dollar) 0 (suc (beforeDollar text))
 unfoldable pub dollarFrom : List ℕ → ℕ → ℕ
 dollarFrom text at = at + beforeDollar (drop at text)
 
+-- the bytes of `${username}`, and of `${clientid}`
+abbrev pub wordLength : ℕ
+wordLength = 11
+
 -- does the word stand at this place, with no `$` behind it?
 unfoldable pub standsLast : List ℕ → ℕ → List ℕ → Bool
-standsLast text at word = begins word (drop at text) && eqb (dollarFrom text (at + 11)) (length text)
+standsLast text at word = begins word (drop at text) && eqb (dollarFrom text (at + wordLength)) (length text)
 
--- the text with another for the 11 bytes from this place on
+-- the text with another for the word at this place
 unfoldable pub wordPut : List ℕ → ℕ → List ℕ → List ℕ
-wordPut text at new = take at text ++ (new ++ drop (at + 11) text)
+wordPut text at new = take at text ++ (new ++ drop (at + wordLength) text)

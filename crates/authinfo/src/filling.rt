@@ -10,6 +10,8 @@ use text::Replaced;
 ghost use mathlib.Core.Path.{_≡_};
 ghost use mathlib.Core.Bool.{false};
 ghost use mathlib.Core.Option.{some};
+ghost use Prim.Native.Nat.{_+_, _≤_};
+ghost use lib.ListN.{length};
 ghost use Rattle.json.specs.Strings.{stringAt};
 ghost use Rattle.json.specs.Plain.{plainText};
 ghost use Rattle.rule.specs.Places.{given};
@@ -18,8 +20,6 @@ ghost use Rattle.authinfo.specs.ClientRule as rule;
 ghost use Rattle.authinfo.specs.Decision as decision;
 ghost use Rattle.authinfo.specs.Places as spec;
 ghost use Rattle.authinfo.specs.Filling as words;
-ghost use Prim.Native.Nat.{_+_, _≤_};
-ghost use lib.ListN.{length};
 
 const USERNAME: [u8; 11] = *b"${username}";
 
@@ -99,7 +99,7 @@ fn stands_last(text: &[u8], at: usize, word: &[u8; WORD]) -> bool
 // The text, with `new` for the word at this place.
 fn with_word(text: &[u8], at: usize, new: &[u8], eq: bool, topic: &[u8]) -> TopicRead
     requires { ⌜ spec.Short (now text) ⌝ }
-    requires { ⌜ at + 11 ≤ length (now text) ⌝ }
+    requires { ⌜ at + words.wordLength ≤ length (now text) ⌝ }
     ensures { λ r. ⌜ r ≡ spec.takenBy (now (topic .entry)) (rule.filledTopic eq (some (words.wordPut (now (text .entry)) at (now (new .entry))))) ⌝ }
 {
     let kept = text.len() - WORD;

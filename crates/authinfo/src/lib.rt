@@ -1,5 +1,6 @@
-// Per-client rules and expiry (document 01, Per-client rules; rmqtt/src/acl.rs): `ask` answers by a text of rules, `reading` reads a line,
-// or `one_pass` its members, `filling` fills its topic, `times` compares times.
+// Per-client rules and expiry (document 01, Per-client rules; rmqtt/src/acl.rs): `ask` answers by a text of rules, `reading` reads a line, its
+// members by `one_pass` where their names are plain, else by `members`; `words` has its two words, `filling` fills its topic. `times` compares
+// times.
 pub mod ask;
 mod filling;
 mod members;

@@ -1,6 +1,5 @@
 -- The loop's invariant: the first `$` from `i` on is that from `at` on. The measure is what is left of the text. Assumes nothing.
 use Prim.Native.Nat.{_-_}
-use native.Mathlib.Omega.{arith}
 use mathlib.Core.Path.{_≡_, refl, sym, _∙_}
 use lib.ListN.{length}
 use denote.Ref.{now}

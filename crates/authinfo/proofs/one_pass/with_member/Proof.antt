@@ -1,5 +1,5 @@
 -- Part by part. Assumes nothing.
-use mathlib.Core.Path.{sym, ap, _∙_}
+use mathlib.Core.Path.{ap, _∙_}
 use mathlib.Core.Bool.{cond}
 use denote.Ref.{now}
 use Rattle.text.specs.Ascii.{ascii}
