@@ -206,6 +206,6 @@ int main(int count, char **words) {
     row_alike("64 rows a table, alike", 64, false, 1000);
     row_alike("512 rows a table, alike", 512, false, 20);
     row_alike("4,096 rows a table, alike", 4096, false, 3);
-    row_alike("4,096 rows a table, two notes equal", 4096, true, 3);
+    row_alike("4,096 rows a table, two equal", 4096, true, 3);
     return 0;
 }

@@ -3,6 +3,8 @@
 mod sorting;
 mod words;
 
+use crate::sorting::FEW;
+use crate::sorting::MANY;
 use crate::sorting::pairwise;
 use crate::sorting::sorted_few;
 use crate::sorting::sorted_many;
@@ -154,10 +156,10 @@ pub fn distinct(table: &[u8], size: usize, used: usize) -> bool
     if table.len() / size < used {
         return pairwise(table, size, used);
     }
-    if used <= 64 {
+    if used <= FEW {
         return sorted_few(table, size, used);
     }
-    if used <= 4096 {
+    if used <= MANY {
         return sorted_many(table, size, used);
     }
     pairwise(table, size, used)

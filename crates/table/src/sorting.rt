@@ -13,6 +13,12 @@ ghost use Rattle.table.specs.Table.{distinct as distinct_rows};
 ghost use Rattle.table.specs.Bytes as bytes;
 ghost use Rattle.table.specs.Order as spec;
 
+// So many rows are sorted in small arrays. More of them, as many as a table of a store has at most (document 01, Store), are sorted in
+// large ones, which take longer to clear than a few rows to sort.
+pub(crate) const FEW: usize = 64;
+
+pub(crate) const MANY: usize = 4096;
+
 // Each row with all behind it.
 pub(crate) fn pairwise(table: &[u8], size: usize, used: usize) -> bool
     ensures { λ r. ⌜ r ≡ distinct_rows same_text (bytes.rows size used (now (table .entry))) ⌝ }
@@ -220,28 +226,27 @@ fn sort(table: &[u8], size: usize, used: usize, order: &mut [u16], merged: &mut 
     }
 }
 
-// The test of up to 64 rows: two arrays of 4,096 numbers would take longer to clear than these to sort.
+// The test by sorting, of few rows and of many.
 pub(crate) fn sorted_few(table: &[u8], size: usize, used: usize) -> bool
     requires { ⌜ used * size ≤ length (now table) ⌝ }
     requires { ⌜ 2 ≤ used ⌝ }
     requires { ⌜ used ≤ 64 ⌝ }
     ensures { λ r. ⌜ r ≡ distinct_rows same_text (bytes.rows size used (now (table .entry))) ⌝ }
 {
-    let mut order = [0u16; 64];
-    let mut merged = [0u16; 64];
+    let mut order = [0u16; FEW];
+    let mut merged = [0u16; FEW];
     sort(table, size, used, &mut order, &mut merged);
     ascending(table, size, used, &order)
 }
 
-// The test of up to 4,096 rows, as many as a table of a store has at most (document 01, Store).
 pub(crate) fn sorted_many(table: &[u8], size: usize, used: usize) -> bool
     requires { ⌜ used * size ≤ length (now table) ⌝ }
     requires { ⌜ 2 ≤ used ⌝ }
     requires { ⌜ used ≤ 4096 ⌝ }
     ensures { λ r. ⌜ r ≡ distinct_rows same_text (bytes.rows size used (now (table .entry))) ⌝ }
 {
-    let mut order = [0u16; 4096];
-    let mut merged = [0u16; 4096];
+    let mut order = [0u16; MANY];
+    let mut merged = [0u16; MANY];
     sort(table, size, used, &mut order, &mut merged);
     ascending(table, size, used, &order)
 }

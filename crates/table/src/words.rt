@@ -53,8 +53,7 @@ pub(crate) fn before(a: &[u8], b: &[u8]) -> bool
     eight(a, last) < eight(b, last)
 }
 
-// Is some word of the first row another one than that of the second? Where it says no, they may still differ, if they are short or not
-// equally long.
+// Do the lengths or some words of the rows differ? Where it says no of rows shorter than a word, they may still do.
 fn differs(a: &[u8], b: &[u8]) -> bool
     ensures { λ r. ⌜ (r ≡ true → now (a .entry) ≡ now (b .entry) → ⊥) ⌝ }
 {
