@@ -1,5 +1,6 @@
 -- Laws of plain strings: their ends byte by byte, and that such a string is its own decoded text. Assumes nothing.
 use Prim.Native.Nat.{ℕ, zero, suc, _+_, _-_, _≤_, _<_}
+use native.Mathlib.Nat.{zero-add}
 use native.Mathlib.Numerals.{add-one}
 use native.Mathlib.Omega.{arith}
 use mathlib.Core.Path.{_≡_, refl, sym, ap, _∙_}
@@ -10,12 +11,16 @@ use lib.Dec.{eqb}
 use borrow.Author.Tests.{eqb-true}
 use lib.ListN.{length, getD, take, drop, drop-of-length-le}
 use lib.Seq.{drop-cons, drop-drop}
+use Rattle.text.specs.Text.{fitsAt, pasted, written}
 use Rattle.json.specs.Utf8.{byteAt, between}
 use Rattle.json.specs.Strings.{quote, Decoded, isPlain, pieceOf, stringFrom, stringAt}
 use Rattle.json.specs.Json.{text, isAt, kindOf, textAt, readAs, valueAt}
+use Rattle.json.specs.Access.{copiedText, copied, decodedInto}
 use Rattle.json.specs.Plain.{plains, skipPlains, plainText}
 use Rattle.json.specs.declared.Place.the-variants.{At, Nowhere}
 use Rattle.json.specs.declared.Piece.the-variants.{Closes}
+use Rattle.json.specs.declared.Copied.{Copied}
+use Rattle.json.specs.declared.Copied.the-variants.{Length, TooLong}
 use Rattle.json.proofs.PieceLaws.{piece-by, plain-raw}
 use Rattle.json.proofs.StringLaws.{ahead, ahead-nothing, ahead-ahead, string-closes, string-raw}
 use Rattle.json.proofs.ScanLaws.{byte-here, at-within}
@@ -124,3 +129,21 @@ plain-value depth line at {end} p =
   where
     behind : at + 1 + (end - at) ≡ end + 1
     behind = omega (arith, p .ahead)
+
+-- ---- a copy of one
+
+-- what is pasted at the front
+pub pasted-front : (t buffer : List ℕ) → pasted 0 t buffer ≡ written t buffer
+unfolding pasted fitsAt written
+pasted-front t buffer = rw (zero-add (length t))
+
+pub copied-by : {fits : Bool} (t buffer : List ℕ) → fits ≡ fitsAt 0 t buffer → cond fits (Length (length t)) TooLong ≡ copiedText (length buffer) t
+unfolding fitsAt copiedText
+copied-by t buffer e = λ i. cond ((rw (zero-add (length t)) at e) i) (Length (length t)) TooLong
+
+-- a plain string
+pub copied-plain : (buffer : List ℕ) {line after : List ℕ} {at end : ℕ} {answer : Copied} → Plain line at end
+    → answer ≡ copiedText (length buffer) (take (end - (at + 1)) (drop (at + 1) line)) → after ≡ written (take (end - (at + 1)) (drop (at + 1) line)) buffer
+    → (answer ≡ copied (length buffer) (stringAt line at)) × (after ≡ decodedInto buffer (stringAt line at))
+unfolding copied decodedInto copiedText
+copied-plain buffer p told wrote = rw (p .string) (told, wrote)

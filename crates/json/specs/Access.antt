@@ -180,6 +180,10 @@ unfoldable pub itemStep : Bool → ℕ → (ℕ → Option (Read Json)) → List
 itemStep true before read line at = stepped (λ m. max (length (m .1)) (longest (m .3))) before (memberAt read line at)
 itemStep false before read line at = stepped (λ e. longest (e .1)) before (elementAt read at)
 
+-- the answer for a text that is copied into a buffer of `room` bytes
+unfoldable pub copiedText : ℕ → List ℕ → Copied
+copiedText room t = cond (leb (length t) room) (Length (length t)) TooLong
+
 -- the answer of `decode` for a buffer of `room` bytes, and the buffer afterwards
 unfoldable pub copied : ℕ → Option Decoded → Copied
 copied room none = NoText

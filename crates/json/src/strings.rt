@@ -366,9 +366,31 @@ fn write_decoded(line: &[u8], at: usize, buffer: &mut [u8])
     }
 }
 
+// A text copied to the front of the buffer; where it is longer, the buffer is unchanged.
+fn copy_text(text: &[u8], buffer: &mut [u8]) -> Copied
+    ensures { λ r. ⌜ r ≡ access.copiedText (length (now (buffer .entry))) (now (text .entry)) ⌝ }
+    ensures { λ r. ⌜ now (buffer .exit) ≡ txt.written (now (text .entry)) (now (buffer .entry)) ⌝ }
+{
+    if text::paste(text, buffer, 0) {
+        return Copied::Length(text.len());
+    }
+    Copied::TooLong
+}
+
 // Writes the decoded text of the string whose opening quote stands at `at` to the front of the buffer. Where it is longer than the
-// buffer, or no string stands there, the buffer is unchanged.
+// buffer, or no string stands there, the buffer is unchanged. Most strings are plain and are copied as they stand.
 pub fn decode(line: &[u8], at: usize, buffer: &mut [u8]) -> Copied
+    ensures { λ r. ⌜ r ≡ access.copied (length (now (buffer .entry))) (spec.stringAt (now (line .entry)) at) ⌝ }
+    ensures { λ r. ⌜ now (buffer .exit) ≡ access.decodedInto (now (buffer .entry)) (spec.stringAt (now (line .entry)) at) ⌝ }
+{
+    if let Place::At(end) = plain_text(line, at) {
+        return copy_text(&line[at + 1..end], buffer);
+    }
+    decode_pieces(line, at, buffer)
+}
+
+// The same, piece by piece.
+fn decode_pieces(line: &[u8], at: usize, buffer: &mut [u8]) -> Copied
     ensures { λ r. ⌜ r ≡ access.copied (length (now (buffer .entry))) (spec.stringAt (now (line .entry)) at) ⌝ }
     ensures { λ r. ⌜ now (buffer .exit) ≡ access.decodedInto (now (buffer .entry)) (spec.stringAt (now (line .entry)) at) ⌝ }
 {
