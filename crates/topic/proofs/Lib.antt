@@ -4,3 +4,4 @@ pub mod Positions
 pub mod Levels
 pub mod Oasis
 pub mod Examples
+pub mod Apart

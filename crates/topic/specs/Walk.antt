@@ -1,10 +1,10 @@
 -- Levels by their places in a text, and the walk of a match over them: document 01, "A match takes one level at a time".
 use Prim.Native.Nat.{ℕ, _+_}
-use mathlib.Core.Bool.{Bool, true, false, cond}
+use mathlib.Core.Bool.{Bool, true, false, _&&_, not, cond}
 use mathlib.Core.List.{List, [], _∷_}
 use lib.Dec.{eqb, leb, ltb}
 use lib.ListN.{length, drop}
-use Rattle.topic.specs.Topic.{Level, slash, levels, ends, passes}
+use Rattle.topic.specs.Topic.{Level, slash, plus, hash, levels, ends, passes}
 use Rattle.topic.specs.declared.Passed.{Passed}
 use Rattle.topic.specs.declared.Passed.the-variants.{Onward, Stop, Answer}
 use Rattle.topic.specs.declared.Walk.{Walk}
@@ -47,3 +47,9 @@ stepped guarded filter text w =
     (cond (ltb (length text) (w .text)) (answered w (ends (levelsAt filter (w .filter))))
     (cond (ltb (length filter) (w .filter)) (answered w false)
     (advanced filter text w (passes guarded (levelAt filter (w .filter)) (levelAt text (w .text))))))
+
+-- the two begin with different bytes, and the filter with no wildcard
+unfoldable pub beginsApart : List ℕ → List ℕ → Bool
+beginsApart [] text = false
+beginsApart (b ∷ filter) [] = false
+beginsApart (b ∷ filter) (t ∷ text) = not (eqb b t) && (not (eqb b plus) && not (eqb b hash))

@@ -213,10 +213,33 @@ fn dollar_rule(filter: &[u8], text: &[u8]) -> bool
     is_only(level, b'#')
 }
 
-// Tree match T, by a caller who knows whether the checked text is a valid filter.
+// Do the two begin with different bytes, and the filter with no wildcard? Their first levels then differ.
+fn begins_apart(filter: &[u8], text: &[u8]) -> bool
+    ensures { λ r. ⌜ r ≡ places.beginsApart (now (filter .entry)) (now (text .entry)) ⌝ }
+{
+    if filter.len() == 0 {
+        return false;
+    }
+    if text.len() == 0 {
+        return false;
+    }
+    let b = filter[0];
+    if b == text[0] {
+        return false;
+    }
+    if b == b'+' {
+        return false;
+    }
+    b != b'#'
+}
+
+// Tree match T, by a caller who knows whether the checked text is a valid filter. Most filters differ from it at the first byte.
 pub fn tree_match_known(filter: &[u8], text: &[u8], valid: bool) -> bool
     ensures { λ r. ⌜ r ≡ spec.treeLevels (spec.levels (now (filter .entry))) (spec.levelsIf valid (now (text .entry))) ⌝ }
 {
+    if begins_apart(filter, text) {
+        return false;
+    }
     if !valid {
         return ends_at(filter, 0);
     }
