@@ -186,6 +186,11 @@ unfolding longest
 users-members line allow at {m} {end} t =
     users-within line allow at (t .reads) (le-ltb textLimit (longest (object (t .members))) (t .short)) ∙ ap (usersBefore end) (members-place line allow at t)
 
+pub users-from : (line : List ℕ) (allow : Bool) (at : ℕ) {users : Users} {end : ℕ} → UsersTo line allow at users end → usersUpTo line allow at ≡ PassedUsers users end
+unfolding usersBefore
+users-from line allow at {users} {end} u =
+    users-within line allow at (u .reads) (le-ltb textLimit (longest (u .value)) (u .short)) ∙ ap (usersBefore end) (u .are)
+
 -- where they are answered
 pub users-to : (line : List ℕ) (allow : Bool) (at : ℕ) {users : Users} {end : ℕ} → usersUpTo line allow at ≡ PassedUsers users end → UsersTo line allow at users end
 unfolding usersUpTo usersWithin usersBefore

@@ -17,11 +17,14 @@ use Rattle.json.specs.Access.{count, countOf, checked, valueHere, stepped, behi
 use Rattle.json.specs.Strings.{Decoded}
 use Rattle.json.specs.declared.Cursor.{Cursor}
 use Rattle.json.specs.declared.Step.the-variants.{Next}
-use Rattle.json.specs.declared.Separator.the-variants.{Close, Comma}
+use Rattle.json.specs.declared.Separator.{Separator}
+use Rattle.json.specs.declared.Separator.the-variants.{Close, Comma, Neither}
 use Rattle.json.specs.declared.Place.{Place}
 use Rattle.json.specs.declared.Place.the-variants.{At, Nowhere}
 use Rattle.rule.specs.declared.Word.{Word}
-use Rattle.rule.specs.declared.Word.the-variants.{Other}
+use Rattle.rule.specs.declared.Word.the-variants.{All as WordAll, Other}
+use Rattle.rule.specs.declared.User.the-variants.{Anyone}
+use Rattle.rule.specs.declared.Protocol.the-variants.{Any}
 use Rattle.rule.specs.declared.Parts.{Parts}
 use Rattle.rule.specs.declared.Control.{Control}
 use Rattle.rule.specs.declared.Control.the-variants.{All}
@@ -38,7 +41,7 @@ use Rattle.json.proofs.ValueLaws.{value-deeper, value-next, elementsFrom, membe
 use Rattle.json.proofs.ScanLaws.{name-next, comma-next}
 use Rattle.json.proofs.AccessSteps.{kindIs}
 use Rattle.json.proofs.AccessLaws.{kind-is, count-is, ArrayIs, array-is}
-use Rattle.json.proofs.PlainLaws.{Plain, plain-value}
+use Rattle.json.proofs.PlainLaws.{Plain, plain-string, plain-value}
 use Rattle.json.proofs.ElementLaws as items
 use Rattle.json.proofs.ElementLaws.{line-read}
 use Rattle.rule.specs.Limits.{textLimit, topicsLimit}
@@ -47,11 +50,17 @@ use Rattle.rule.specs.Rule.{Value, nth, named, member-named, isTemplate,
 use Rattle.rule.specs.Places.{valueOf, usersAnswer, topicAnswer, isTopic, overTopics, tooMany, topicsHere, placeOf, wordOf, controlOfWord, controlHere, usersOfPlace, withTopics, withControl, withUsers, ruleBehind, withAccess, accessAt}
 use Rattle.rule.specs.OnePass.{WherePlace, PartTo, TopicTo, TopicsTo, Tail, WhereRule, FromTopics, FromControl, FromUsers, IsRule}
 use Rattle.rule.proofs.RuleLaws.{isSome, topics-here, placed, parts-placed, read-valid}
-use Rattle.rule.specs.Members.{valueBehind, usersListed, placesIn, noPlaces, MembersTo, WhereMembers, UsersTo}
+use Rattle.rule.specs.Members.{valueBehind, usersListed, placesIn, noPlaces, MembersTo, WhereMembers, UsersTo, WhereUsers}
+use Rattle.json.specs.Plain.{plainText}
+use Rattle.rule.specs.Front.{EqTo, eqOf, eqNamed, eqValued, eqQuoted, eqBefore}
+use Rattle.rule.specs.declared.EqPassed.{EqPassed}
+use Rattle.rule.specs.declared.EqPassed.the-variants.{Text as EqText, Unread as UnreadEq}
 use Rattle.rule.specs.declared.MembersPassed.{MembersPassed}
 use Rattle.rule.specs.declared.MembersPassed.the-variants.{Places}
+use Rattle.rule.specs.declared.UsersPassed.{UsersPassed}
+use Rattle.rule.specs.declared.UsersPassed.the-variants.{Users as PassedUsers}
 use Rattle.rule.specs.declared.MemberPlaces.{MemberPlaces}
-use Rattle.rule.proofs.MemberLaws.{users-object, users-listed, places-in}
+use Rattle.rule.proofs.MemberLaws.{wordUsers, users-word, users-object, users-listed, places-in}
 use Rattle.rule.proofs.WordLaws.{word-long, word-here}
 use Rattle.rule.proofs.ReadLaws.{topics-by, here-by}
 
@@ -248,28 +257,115 @@ pub first-member : (line : List ℕ) (at : ℕ) {first end : ℕ} {rest : Member
 first-member line at {rest = rest} o f m = record { members = rest; reads = items.object-read 6 line at o f (m .reads); short = m .short; are = refl }
 
 -- a topic under `eq`, from its plain strings
-pub eq-read : (line : List ℕ) (at : ℕ) {name end p last next : ℕ} → isAt line at 0x7b ≡ true → name ≡ skipBlanks line (at + 1) → Plain line name end
-    → same (take (end - (name + 1)) (drop (name + 1) line)) (ascii "eq") ≡ true → valueBehind line (end + 1) ≡ At p → Plain line p last → last - (p + 1) ≤ textLimit
-    → separatorAt 0x7d line (last + 1) ≡ Close next → TopicTo line at next
-unfolding longest longestMember topicOf asObject member-named named bind asText
-eq-read line at {name} {end} {p} {last} o f n e b s h q =
-    record {
-      value = object (member name t p (text u) no-member);
-      topic = record { eq = true; text = record { at = p; text = u } };
-      reads = items.object-read 5 line at o f (items.members-last 5 line name (name-read line name n b) (plain-value 5 line p s) q);
-      short = omega (arith, ap length (same-true t (ascii "eq") e), length-take (last - (p + 1)) (drop (p + 1) line));
-      is = rw e;
-    }
+pub eq-to : (line : List ℕ) (at : ℕ) {opens closes end : ℕ} → eqOf line at ≡ EqText opens closes end → EqTo line at opens closes end
+unfolding eqOf eqNamed eqValued eqQuoted eqBefore
+eq-to line at {opens} {closes} {end} e = by-brace (isAt line at 0x7b) refl e
   where
-    t : List ℕ
-    t = take (end - (name + 1)) (drop (name + 1) line)
+    name : ℕ
+    name = skipBlanks line (at + 1)
 
-    u : List ℕ
-    u = take (last - (p + 1)) (drop (p + 1) line)
+    no : {A : Type 0} → UnreadEq ≡ EqText opens closes end → A
+    no q = let z : _≡_ {A = ℕ} 0 1 = cc in absurd (omega arith)
 
--- where members' places are answered
+    Told : EqPassed → Type 0
+    Told UnreadEq = Unit {0}
+    Told (EqText o c n) = EqTo line at o c n
+
+    by-end : (b : isAt line at 0x7b ≡ true) (last o c : ℕ) → plainText line name ≡ At last → same (take (last - (name + 1)) (drop (name + 1) line)) (ascii "eq") ≡ true
+        → valueBehind line (last + 1) ≡ At o → plainText line o ≡ At c → (s : Separator) → separatorAt 0x7d line (c + 1) ≡ s → eqBefore o c s ≡ EqText opens closes end
+        → EqTo line at opens closes end
+    by-end b last o c p i v q (Close next) f k =
+        subst Told k
+        (record { name = name; name-end = last; brace = b; begins = refl; quoted-name = p; is = i; behind = v; quoted = q; ends = f })
+    by-end b last o c p i v q (Comma next) f k = no k
+    by-end b last o c p i v q Neither f k = no k
+
+    by-string : (b : isAt line at 0x7b ≡ true) (last o : ℕ) → plainText line name ≡ At last → same (take (last - (name + 1)) (drop (name + 1) line)) (ascii "eq") ≡ true
+        → valueBehind line (last + 1) ≡ At o → (c : Place) → plainText line o ≡ c → eqQuoted line o c ≡ EqText opens closes end → EqTo line at opens closes end
+    by-string b last o p i v Nowhere q k = no k
+    by-string b last o p i v (At c) q k = by-end b last o c p i v q (separatorAt 0x7d line (c + 1)) refl k
+
+    by-value : (b : isAt line at 0x7b ≡ true) (last : ℕ) → plainText line name ≡ At last → same (take (last - (name + 1)) (drop (name + 1) line)) (ascii "eq") ≡ true
+        → (o : Place) → valueBehind line (last + 1) ≡ o → eqValued line o ≡ EqText opens closes end → EqTo line at opens closes end
+    by-value b last p i Nowhere v k = no k
+    by-value b last p i (At o) v k = by-string b last o p i v (plainText line o) refl k
+
+    by-word : (b : isAt line at 0x7b ≡ true) (last : ℕ) → plainText line name ≡ At last → (i : Bool) → same (take (last - (name + 1)) (drop (name + 1) line)) (ascii "eq") ≡ i
+        → cond i (eqValued line (valueBehind line (last + 1))) UnreadEq ≡ EqText opens closes end → EqTo line at opens closes end
+    by-word b last p true i k = by-value b last p i (valueBehind line (last + 1)) refl k
+    by-word b last p false i k = no k
+
+    by-name : (b : isAt line at 0x7b ≡ true) → (o : Place) → plainText line name ≡ o → eqNamed line name o ≡ EqText opens closes end → EqTo line at opens closes end
+    by-name b Nowhere p k = no k
+    by-name b (At last) p k = by-word b last p (same (take (last - (name + 1)) (drop (name + 1) line)) (ascii "eq")) refl k
+
+    by-brace : (b : Bool) → isAt line at 0x7b ≡ b → cond b (eqNamed line name (plainText line name)) UnreadEq ≡ EqText opens closes end → EqTo line at opens closes end
+    by-brace true b k = by-name b (plainText line name) refl k
+    by-brace false b k = no k
+
+-- step by step
+pub eq-unopened : (line : List ℕ) (at : ℕ) → isAt line at 0x7b ≡ false → eqOf line at ≡ UnreadEq
+unfolding eqOf
+eq-unopened line at b = rw b
+
+pub eq-named : (line : List ℕ) (at : ℕ) {name : ℕ} {o : Place} → isAt line at 0x7b ≡ true → name ≡ skipBlanks line (at + 1) → plainText line name ≡ o → eqOf line at ≡ eqNamed line name o
+unfolding eqOf
+eq-named line at b n p = rw (b, sym n, p)
+
+pub eq-valued : (line : List ℕ) (name : ℕ) {last : ℕ} {i : Bool} {o : Place} → same (take (last - (name + 1)) (drop (name + 1) line)) (ascii "eq") ≡ i → valueBehind line (last + 1) ≡ o
+    → eqNamed line name (At last) ≡ cond i (eqValued line o) UnreadEq
+unfolding eqNamed
+eq-valued line name e v = λ j. cond (e j) (eqValued line (v j)) UnreadEq
+
+pub eq-quoted : (line : List ℕ) (opens : ℕ) {o : Place} → plainText line opens ≡ o → eqValued line (At opens) ≡ eqQuoted line opens o
+unfolding eqValued
+eq-quoted line opens p = ap (eqQuoted line opens) p
+
+pub eq-ended : (line : List ℕ) (opens closes : ℕ) {s : Separator} → separatorAt 0x7d line (closes + 1) ≡ s → eqQuoted line opens (At closes) ≡ eqBefore opens closes s
+unfolding eqQuoted
+eq-ended line opens closes f = ap (eqBefore opens closes) f
+
+module _ (line : List ℕ) (at : ℕ) {opens closes end : ℕ} (q : EqTo line at opens closes end) where
+  under-name : List ℕ
+  under-name = take (q .name-end - (q .name + 1)) (drop (q .name + 1) line)
+
+  abbrev pub under : List ℕ
+  under = take (closes - (opens + 1)) (drop (opens + 1) line)
+
+  pub eq-string : Plain line opens closes
+  eq-string = plain-string line opens (q .quoted)
+
+  pub eq-object : Json
+  eq-object = object (member (q .name) under-name opens (text under) no-member)
+
+  -- the object, and the topic that it is
+  pub eq-value : valueAt 6 line at ≡ some (record { value = eq-object; next = end })
+  unfolding under-name eq-object
+  eq-value =
+      items.object-read 5 line at (q .brace) (q .begins)
+      (items.members-last 5 line (q .name) (name-read line (q .name) (plain-string line (q .name) (q .quoted-name)) (q .behind)) (plain-value 5 line opens eq-string) (q .ends))
+
+  pub eq-topic : topicOf (record { at = at; value = eq-object }) ≡ some (record { eq = true; text = record { at = opens; text = under } })
+  unfolding under-name eq-object topicOf asObject member-named named bind asText
+  eq-topic = rw (q .is)
+
+  pub eq-read : closes - (opens + 1) ≤ textLimit → TopicTo line at end
+  unfolding under-name eq-object longest longestMember
+  eq-read h =
+      record {
+        value = eq-object;
+        topic = record { eq = true; text = record { at = opens; text = under } };
+        reads = eq-value;
+        short = omega (arith, ap length (same-true under-name (ascii "eq") (q .is)), length-take (closes - (opens + 1)) (drop (opens + 1) line));
+        is = eq-topic;
+      }
+
+-- where members' places, and users, are answered
 pub members-answered : {r : MembersPassed} {m : MemberPlaces} {end : ℕ} (holds : MemberPlaces → ℕ → Type 0) → r ≡ Places m end → WhereMembers r holds → holds m end
 members-answered holds e h = subst (λ (r : MembersPassed). WhereMembers r holds) e h
+
+pub users-answered : {r : UsersPassed} {users : Users} {end : ℕ} (holds : Users → ℕ → Type 0) → r ≡ PassedUsers users end → WhereUsers r holds → holds users end
+users-answered holds e h = subst (λ (r : UsersPassed). WhereUsers r holds) e h
 
 -- the users of an object, by the places of its members
 pub members-place : (line : List ℕ) (allow : Bool) (at : ℕ) {m : MemberPlaces} {end : ℕ} → MembersTo line at m end → usersOfPlace line allow (At at) ≡ usersListed allow line m
@@ -297,6 +393,24 @@ word-short t h = by (leb (length t) 9) refl
     by : (b : Bool) → leb (length t) 9 ≡ b → length t ≤ textLimit
     by true e = omega (arith, leb-true (length t) 9 e)
     by false e = absurd (h (word-long t (leb-false (length t) 9 e)))
+
+-- the word `all` lists nobody
+pub all-users : (line : List ℕ) (allow : Bool) (at : ℕ) {end : ℕ} → Plain line at end → wordOf (take (end - (at + 1)) (drop (at + 1) line)) ≡ WordAll
+    → UsersTo line allow at (record { user = Anyone; clientid = Nowhere; ipaddr = Nowhere; protocol = Any }) (end + 1)
+unfolding longest usersOfPlace wordUsers kindIs
+all-users line allow at {end} p w =
+    record {
+      value = text t;
+      reads = plain-value 7 line at p;
+      short = word-short t (λ e. no (sym w ∙ e));
+      are = users-word allow line at (kind-is depthLimit line at (plain-value depthLimit line at p)) (word-here line at (p .string) ∙ w);
+    }
+  where
+    t : List ℕ
+    t = take (end - (at + 1)) (drop (at + 1) line)
+
+    no : WordAll ≡ Other → ⊥
+    no e = let z : _≡_ {A = ℕ} 0 1 = cc in omega arith
 
 module _ (line : List ℕ) (allow : Bool) (users : Users) where
   pub topics-tail : (control : Control) (at : ℕ) {end next last : ℕ} → TopicsTo line at end → separatorAt 0x5d line end ≡ Close next → last ≡ skipBlanks line next → last ≡ length line

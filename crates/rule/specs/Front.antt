@@ -1,5 +1,5 @@
 -- What is told of a rule's line from its front: the access and the users, then the control and the place of the topics. Where the line is a
--- rule, these are its parts.
+-- rule, these are its parts. And a topic under `eq`, where it stands.
 use Prim.Native.Nat.{ℕ, _+_, _-_}
 use mathlib.Core.Path.{_≡_}
 use mathlib.Core.Bool.{Bool, true, false, cond}
@@ -7,6 +7,8 @@ use mathlib.Core.List.{List}
 use mathlib.Core.Option.{Option, none, some}
 use lib.Dec.{ltb}
 use lib.ListN.{take, drop}
+use Rattle.text.specs.Ascii.{ascii}
+use Rattle.text.specs.Text.{same}
 use Rattle.json.specs.Json.{Json, Read, isAt, skipBlanks, separatorAt, valueAt, longest}
 use Rattle.json.specs.Plain.{plainText}
 use Rattle.json.specs.declared.Place.{Place}
@@ -15,6 +17,7 @@ use Rattle.json.specs.declared.Separator.{Separator}
 use Rattle.json.specs.declared.Separator.the-variants.{Close, Comma, Neither}
 use Rattle.rule.specs.Limits.{textLimit}
 use Rattle.rule.specs.Places.{wordOf, controlOfWord, usersOfPlace, nextPart, tooMany, controlHere, withControl, ruleHere}
+use Rattle.rule.specs.Members.{valueBehind}
 use Rattle.rule.specs.declared.Word.{Word}
 use Rattle.rule.specs.declared.Word.the-variants.{Allow, Deny, All as WordAll, Connect, Publish, Subscribe, Pubsub, Other}
 use Rattle.rule.specs.declared.Control.{Control}
@@ -35,6 +38,8 @@ use Rattle.rule.specs.declared.AccessPassed.{AccessPassed}
 use Rattle.rule.specs.declared.AccessPassed.the-variants.{Access, Unread as UnreadAccess}
 use Rattle.rule.specs.declared.Front.{Front}
 use Rattle.rule.specs.declared.Front.the-variants.{Users as FrontUsers, Unread as UnreadFront}
+use Rattle.rule.specs.declared.EqPassed.{EqPassed}
+use Rattle.rule.specs.declared.EqPassed.the-variants.{Text as EqText, Unread as UnreadEq}
 use Rattle.rule.specs.declared.Rest.{Rest}
 use Rattle.rule.specs.declared.Rest.the-variants.{Rest as RestIs, Unread as UnreadRest}
 
@@ -122,6 +127,28 @@ restBehind line Neither = UnreadRest
 unfoldable pub restOf : List ℕ → ℕ → Rest
 restOf line end = restBehind line (separatorAt 0x5d line end)
 
+-- the string of an object whose only member is `eq`, name and string plain: its quotes' places, and the place behind the object
+unfoldable pub eqBefore : ℕ → ℕ → Separator → EqPassed
+eqBefore opens closes (Close end) = EqText opens closes end
+eqBefore opens closes (Comma next) = UnreadEq
+eqBefore opens closes Neither = UnreadEq
+
+unfoldable pub eqQuoted : List ℕ → ℕ → Place → EqPassed
+eqQuoted line opens Nowhere = UnreadEq
+eqQuoted line opens (At closes) = eqBefore opens closes (separatorAt 0x7d line (closes + 1))
+
+unfoldable pub eqValued : List ℕ → Place → EqPassed
+eqValued line Nowhere = UnreadEq
+eqValued line (At opens) = eqQuoted line opens (plainText line opens)
+
+unfoldable pub eqNamed : List ℕ → ℕ → Place → EqPassed
+eqNamed line name Nowhere = UnreadEq
+eqNamed line name (At end) =
+    cond (same (take (end - (name + 1)) (drop (name + 1) line)) (ascii "eq")) (eqValued line (valueBehind line (end + 1))) UnreadEq
+
+unfoldable pub eqOf : List ℕ → ℕ → EqPassed
+eqOf line at = let name = skipBlanks line (at + 1) in cond (isAt line at 0x7b) (eqNamed line name (plainText line name)) UnreadEq
+
 -- ---- what these are where the line is a rule
 
 -- the line begins with a plain word that is this access, and its users stand at this place
@@ -169,3 +196,15 @@ WordFrom line at control topics = ControlAt line (At at) control topics
 -- this control stands behind users that end before this place
 abbrev pub RestFrom : List ℕ → ℕ → Control → Topics → Type 0
 RestFrom line end control topics = ControlAt line (itemBehind line end) control topics
+
+-- an object that ends before a place, whose only member is `eq` with the plain string between these quotes
+pub record EqTo (line : List ℕ) (at opens closes end : ℕ) : Type 0 where
+  pub name : ℕ
+  pub name-end : ℕ
+  pub brace : isAt line at 0x7b ≡ true
+  pub begins : name ≡ skipBlanks line (at + 1)
+  pub quoted-name : plainText line name ≡ At name-end
+  pub is : same (take (name-end - (name + 1)) (drop (name + 1) line)) (ascii "eq") ≡ true
+  pub behind : valueBehind line (name-end + 1) ≡ At opens
+  pub quoted : plainText line opens ≡ At closes
+  pub ends : separatorAt 0x7d line (closes + 1) ≡ Close end

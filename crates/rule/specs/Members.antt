@@ -29,6 +29,8 @@ use Rattle.rule.specs.declared.UsersRead.the-variants.{Users as UsersAre
 use Rattle.rule.specs.declared.MemberPlaces.{MemberPlaces}
 use Rattle.rule.specs.declared.MembersPassed.{MembersPassed}
 use Rattle.rule.specs.declared.MembersPassed.the-variants.{Places, Unread}
+use Rattle.rule.specs.declared.UsersPassed.{UsersPassed}
+use Rattle.rule.specs.declared.UsersPassed.the-variants.{Users as PassedUsers, Unread as UnreadUsers}
 
 -- what a member's place gives: a string, a number, a bool, a password
 unfoldable pub textFrom : List ℕ → Place → Place
@@ -136,3 +138,7 @@ pub record UsersTo (line : List ℕ) (allow : Bool) (at : ℕ) (users : Users) (
   pub reads : valueAt 7 line at ≡ some (record { value = value; next = end })
   pub short : longest value ≤ textLimit
   pub are : usersOfPlace line allow (At at) ≡ UsersAre users
+
+abbrev pub WhereUsers : UsersPassed → (Users → ℕ → Type 0) → Type 0
+WhereUsers (PassedUsers users end) holds = holds users end
+WhereUsers UnreadUsers holds = Unit {0}

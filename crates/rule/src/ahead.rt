@@ -3,10 +3,12 @@
 use crate::AccessPassed;
 use crate::Control;
 use crate::ControlRead;
+use crate::EqPassed;
 use crate::Front;
 use crate::Rest;
 use crate::Topics;
 use crate::UsersPassed;
+use crate::listed::value_behind;
 use crate::one_pass::access_end;
 use crate::one_pass::users_end;
 use crate::words::control_of;
@@ -14,7 +16,9 @@ use crate::words::word_of;
 use json::Place;
 use json::Separator;
 use json::access::plain_text;
+use json::values::is_at;
 use json::values::separator;
+use json::values::skip_blanks;
 ghost use mathlib.Core.Path.{_≡_};
 ghost use Rattle.json.specs.Plain.{plainText};
 ghost use Rattle.rule.specs.Front as spec;
@@ -57,5 +61,32 @@ fn from_word(line: &[u8], at: usize) -> Rest
         Separator::Comma(next) => Rest::Rest(control, Topics::Listed(next)),
         Separator::Close(_) => Rest::Rest(control, Topics::All),
         Separator::Neither => Rest::Unread,
+    }
+}
+
+// The string of the object at this place whose only member is a plain `eq`, and the place behind the object.
+pub fn eq_text(line: &[u8], at: usize) -> EqPassed
+    ensures { λ r. ⌜ r ≡ spec.eqOf (now (line .entry)) at ⌝ }
+{
+    if !is_at(line, at, b'{') {
+        return EqPassed::Unread;
+    }
+    let name = skip_blanks(line, at + 1);
+    let Place::At(end) = plain_text(line, name) else {
+        return EqPassed::Unread;
+    };
+    if !text::same(&line[name + 1..end], b"eq") {
+        return EqPassed::Unread;
+    }
+    let Place::At(p) = value_behind(line, end + 1) else {
+        return EqPassed::Unread;
+    };
+    let Place::At(last) = plain_text(line, p) else {
+        return EqPassed::Unread;
+    };
+    match separator(line, last + 1, b'}') {
+        Separator::Close(next) => EqPassed::Text(p, last, next),
+        Separator::Comma(_) => EqPassed::Unread,
+        Separator::Neither => EqPassed::Unread,
     }
 }

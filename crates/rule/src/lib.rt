@@ -128,6 +128,12 @@ pub enum Front {
     Unread,
 }
 
+// The string of a topic under `eq`: its quotes' places, and the place behind the object; or that it was not read.
+pub enum EqPassed {
+    Text(usize, usize, usize),
+    Unread,
+}
+
 // The control and the topics behind a line's users; or that they were not read.
 pub enum Rest {
     Rest(Control, Topics),

@@ -3,8 +3,10 @@
 use crate::AccessPassed;
 use crate::Control;
 use crate::ControlRead;
+use crate::EqPassed;
 use crate::MemberPlaces;
 use crate::MembersPassed;
+use crate::Protocol;
 use crate::Refusal;
 use crate::Rule;
 use crate::RuleRead;
@@ -12,10 +14,12 @@ use crate::TEXT;
 use crate::TOPICS;
 use crate::Topic;
 use crate::Topics;
+use crate::User;
 use crate::Users;
 use crate::UsersPassed;
 use crate::UsersRead;
 use crate::Word;
+use crate::ahead::eq_text;
 use crate::listed::users_at;
 use crate::listed::users_of;
 use crate::listed::value_behind;
@@ -76,30 +80,13 @@ fn is_topic(text: &[u8]) -> bool
 fn eq_end(line: &[u8], at: usize) -> Place
     ensures { λ r. ⌜ spec.WherePlace r (spec.TopicTo (now (line .entry)) at) ⌝ }
 {
-    if !is_at(line, at, b'{') {
-        return Place::Nowhere;
-    }
-    let name = skip_blanks(line, at + 1);
-    let Place::At(end) = plain_text(line, name) else {
+    let EqPassed::Text(opens, closes, end) = eq_text(line, at) else {
         return Place::Nowhere;
     };
-    if !text::same(&line[name + 1..end], b"eq") {
+    if TEXT < closes - (opens + 1) {
         return Place::Nowhere;
     }
-    let Place::At(p) = value_behind(line, end + 1) else {
-        return Place::Nowhere;
-    };
-    let Place::At(last) = plain_text(line, p) else {
-        return Place::Nowhere;
-    };
-    if TEXT < last - (p + 1) {
-        return Place::Nowhere;
-    }
-    match separator(line, last + 1, b'}') {
-        Separator::Close(next) => Place::At(next),
-        Separator::Comma(_) => Place::Nowhere,
-        Separator::Neither => Place::Nowhere,
-    }
+    Place::At(end)
 }
 
 // The place behind the topic at this place.
@@ -282,10 +269,34 @@ fn members_end(line: &[u8], at: usize) -> MembersPassed
     MembersPassed::Unread
 }
 
+// Everyone, if the word `all` stands plain at this place, and the place behind it.
+fn everyone_end(line: &[u8], allow: bool, at: usize) -> UsersPassed
+    ensures { λ r. ⌜ members.WhereUsers r (members.UsersTo (now (line .entry)) allow at) ⌝ }
+{
+    let Place::At(end) = plain_text(line, at) else {
+        return UsersPassed::Unread;
+    };
+    match word_of(&line[at + 1..end]) {
+        Word::All => UsersPassed::Users(
+            Users {
+                user: User::Anyone,
+                clientid: Place::Nowhere,
+                ipaddr: Place::Nowhere,
+                protocol: Protocol::Any,
+            },
+            end + 1,
+        ),
+        _ => UsersPassed::Unread,
+    }
+}
+
 // The users at this place, and the place behind them.
 pub(crate) fn users_end(line: &[u8], allow: bool, at: usize) -> UsersPassed
     ensures { λ r. ⌜ r ≡ front.usersUpTo (now (line .entry)) allow at ⌝ }
 {
+    if let UsersPassed::Users(everyone, behind) = everyone_end(line, allow, at) {
+        return UsersPassed::Users(everyone, behind);
+    }
     if let MembersPassed::Places(places, end) = members_end(line, at) {
         if let UsersRead::Users(users) = users_of(line, places, allow) {
             return UsersPassed::Users(users, end);

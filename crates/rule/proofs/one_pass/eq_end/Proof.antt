@@ -1,167 +1,47 @@
--- One member, with a plain name and a plain string. Assumes nothing.
+-- The string under `eq`, if it is not over the limit. Assumes nothing.
 use native.Mathlib.Omega.{arith}
 use mathlib.Core.Path.{sym, _∙_}
 use denote.Ref.{now}
-use borrow.Author.Tests.{not-false}
-use Rattle.json.proofs.ScanLaws.{at-within}
-use Rattle.json.proofs.PlainLaws.{Plain, plain-string}
-use Rattle.rule.proofs.OnePassLaws.{eq-read}
+use Rattle.rule.proofs.OnePassLaws.{eq-to, eq-string, eq-read}
 use borrow.Author.Needs.{needs}
 use Rattle.rule.proofs.one_pass.eq_end.Statement.{statement}
 use Rattle.rule.proofs.one_pass.eq_end.Tie as tie
 
--- the plain name, and the plain string behind it
-named : (c : tie.After-known-told) → Plain (now (c .before .before .before .before .before .before .before .before .args .line)) (c .before .before .before .before .skip-blanks .result) (c .before .end .given .0 .0)
-named c = plain-string (now (c .before .before .before .before .before .before .before .before .args .line)) (c .before .before .before .before .skip-blanks .result) (sym (c .before .before .before .plain-text .ensures) ∙ c .before .end .given .1)
+eq-text-requires : tie.Need-eq-text-requires
+eq-text-requires c κs = search needs
 
-valued : (c : tie.After-known-told3) → Plain (now (c .before .before .before .before .before .before .before .before .before .before .before .before .before .before .before .before .before .before .before .before .args .line)) (c .before .before .before .before .before .p .given .0 .0) (c .before .last .given .0 .0)
-valued c = plain-string (now (c .before .before .before .before .before .before .before .before .before .before .before .before .before .before .before .before .before .before .before .before .args .line)) (c .before .before .before .before .before .p .given .0 .0) (sym (c .before .before .before .plain-text2 .ensures) ∙ c .before .last .given .1)
-
-is-at-requires : tie.Need-is-at-requires
-is-at-requires c κs = search needs
-
-returns : tie.Need-returns
-returns c = search needs
-
-add-skip-blanks : tie.Need-add-skip-blanks
-add-skip-blanks c = omega (arith, at-within (now (c .before .before .before .args .line)) _ 0x7b (omega arith) (sym (c .before .is-at .ensures) ∙ not-false _ (c .if1 .left)))
-
-skip-blanks-requires : tie.Need-skip-blanks-requires
-skip-blanks-requires c κs = search needs
-
-plain-text-requires : tie.Need-plain-text-requires
-plain-text-requires c κs = search needs
-
-enum-known-end : tie.Need-enum-known-end
-enum-known-end c = search needs
+enum-known-opens : tie.Need-enum-known-opens
+enum-known-opens c = search needs
 
 enum-told : tie.Need-enum-told
 enum-told c = search needs
 
+returns : tie.Need-returns
+returns c = search needs
+
+add-if1 : tie.Need-add-if1
+add-if1 c = let a = c .before .before .before .before .before .args in let p = eq-string (now (a .line)) (a .at) (eq-to (now (a .line)) (a .at) (sym (c .before .before .before .eq-text .ensures) ∙ c .before .opens .given .1)) in omega arith
+
+sub-if1 : tie.Need-sub-if1
+sub-if1 c = let a = c .before .before .before .before .before .args in let p = eq-string (now (a .line)) (a .at) (eq-to (now (a .line)) (a .at) (sym (c .before .before .before .eq-text .ensures) ∙ c .before .opens .given .1)) in omega arith
+
 returns-2 : tie.Need-returns-2
 returns-2 c = search needs
 
-add-same : tie.Need-add-same
-add-same c = let p = named c in omega arith
-
-sub-same : tie.Need-sub-same
-sub-same c = let p = named c in omega arith
-
-part-same-start : tie.Need-part-same-start
-part-same-start c = let p = named c in omega arith
-
-part-same-end : tie.Need-part-same-end
-part-same-end c = let p = named c in omega arith
-
-slice-aggregate-same : tie.Need-slice-aggregate-same
-slice-aggregate-same c = search needs
-
-same-requires : tie.Need-same-requires
-same-requires c κs = search needs
-
 returns-3 : tie.Need-returns-3
-returns-3 c = search needs
-
-add-value-behind : tie.Need-add-value-behind
-add-value-behind c = let p = named (c .before .before .before .before) in omega arith
-
-value-behind-requires : tie.Need-value-behind-requires
-value-behind-requires c κs = search needs
-
-enum-known-p : tie.Need-enum-known-p
-enum-known-p c = search needs
-
-enum-told-2 : tie.Need-enum-told-2
-enum-told-2 c = search needs
-
-returns-4 : tie.Need-returns-4
-returns-4 c = search needs
-
-plain-text-requires-2 : tie.Need-plain-text-requires-2
-plain-text-requires-2 c κs = search needs
-
-enum-known-last : tie.Need-enum-known-last
-enum-known-last c = search needs
-
-enum-told-3 : tie.Need-enum-told-3
-enum-told-3 c = search needs
-
-returns-5 : tie.Need-returns-5
-returns-5 c = search needs
-
-add-if3 : tie.Need-add-if3
-add-if3 c = let p = valued c in omega arith
-
-sub-if3 : tie.Need-sub-if3
-sub-if3 c = let p = valued c in omega arith
-
-returns-6 : tie.Need-returns-6
-returns-6 c = search needs
-
-add-separator : tie.Need-add-separator
-add-separator c = let p = valued (c .before) in omega arith
-
-separator-requires : tie.Need-separator-requires
-separator-requires c κs = search needs
-
-enum-known-next : tie.Need-enum-known-next
-enum-known-next c = search needs
-
-enum-told-4 : tie.Need-enum-told-4
-enum-told-4 c = search needs
-
-enum-told-5 : tie.Need-enum-told-5
-enum-told-5 c = search needs
-
-returns-7 : tie.Need-returns-7
-returns-7 c =
-    let a = c .before .before .before .before .before .before .before .before .before .before .before .before .before .before .before .before .before .before .before .before .before .before .before .before .before .args in
-    eq-read (now (a .line)) (a .at) (sym (c .before .before .before .before .before .before .before .before .before .before .before .before .before .before .before .before .before .before .before .before .before .before .before .is-at .ensures) ∙ not-false _ (c .before .before .before .before .before .before .before .before .before .before .before .before .before .before .before .before .before .before .before .before .before .before .if1 .left)) (c .before .before .before .before .before .before .before .before .before .before .before .before .before .before .before .before .before .before .before .before .before .skip-blanks .ensures) (named (c .before .before .before .before .before .before .before .before .before .before .before .before .before .before .before .before .before))
-    (sym (c .before .before .before .before .before .before .before .before .before .before .before .before .before .before .same .ensures) ∙ not-false _ (c .before .before .before .before .before .before .before .before .before .before .before .before .before .if2 .left)) (sym (c .before .before .before .before .before .before .before .before .before .before .before .before .value-behind .ensures) ∙ c .before .before .before .before .before .before .before .before .before .before .p .given .1) (valued (c .before .before .before .before .before)) (c .before .before .before .before .if3 .left)
-    (sym (c .before .before .before .separator .ensures) ∙ c .before .next .given .1)
-
-returns-8 : tie.Need-returns-8
-returns-8 c = search needs
-
-returns-9 : tie.Need-returns-9
-returns-9 c = search needs
+returns-3 c =
+    let a = c .before .before .before .before .before .before .args in
+    eq-read (now (a .line)) (a .at) (eq-to (now (a .line)) (a .at) (sym (c .before .before .before .before .eq-text .ensures) ∙ c .before .before .opens .given .1)) (c .if1 .left)
 
 pub eq-end-spec : {M : Type 1} → statement M
 eq-end-spec =
     tie.close
     (tie.spec
-    is-at-requires
-    returns
-    add-skip-blanks
-    skip-blanks-requires
-    plain-text-requires
-    enum-known-end
+    eq-text-requires
+    enum-known-opens
     enum-told
+    returns
+    add-if1
+    sub-if1
     returns-2
-    add-same
-    sub-same
-    part-same-start
-    part-same-end
-    slice-aggregate-same
-    same-requires
-    returns-3
-    add-value-behind
-    value-behind-requires
-    enum-known-p
-    enum-told-2
-    returns-4
-    plain-text-requires-2
-    enum-known-last
-    enum-told-3
-    returns-5
-    add-if3
-    sub-if3
-    returns-6
-    add-separator
-    separator-requires
-    enum-known-next
-    enum-told-4
-    enum-told-5
-    returns-7
-    returns-8
-    returns-9)
+    returns-3)
