@@ -8,6 +8,7 @@ use mathlib.Core.List.{List, [], _∷_}
 use mathlib.Core.Option.{Option, none, some, bind}
 use lib.Dec.{ltb}
 use lib.ListN.{length, take, drop}
+use Rattle.text.specs.Text.{same}
 use Rattle.topic.specs.Topic.{levels, levelsIf, validFilter, treeLevels, checkedLevels, treeMatch}
 use Rattle.json.specs.Json.{text, separatorAt, depthLimit, lineValue}
 use Rattle.json.specs.Access.{nextItem}
@@ -16,13 +17,14 @@ use Rattle.json.specs.declared.Place.{Place}
 use Rattle.json.specs.declared.Place.the-variants.{At}
 use Rattle.json.proofs.LineLaws.{lines-here}
 use Rattle.json.proofs.PlainLaws.{Plain, plain-value}
+use Rattle.json.proofs.ValueLaws.{value-deeper}
 use Rattle.rule.specs.Limits.{textLimit, linesLimit}
 use Rattle.rule.specs.Rule as spec
 use Rattle.rule.specs.Rule.{Value, isTemplate, asText, asObject, topicOf, topicMeans}
 use Rattle.rule.specs.RuleText.{Result, refused, gives, Fault, readRule, faultIn, textFault}
 use Rattle.rule.specs.Agreement.{identityAt}
-use Rattle.rule.specs.Places.{placedRule, fourthOf, ruleAnswer}
-use Rattle.rule.specs.Front.{itemBehind, FrontTo, RestFrom}
+use Rattle.rule.specs.Places.{valueOf, placedRule, fourthOf, ruleAnswer}
+use Rattle.rule.specs.Front.{itemBehind, FrontTo, RestFrom, EqTo}
 use Rattle.rule.specs.declared.Refusal.the-variants.{TooLong}
 use Rattle.rule.specs.declared.Control.{Control}
 use Rattle.rule.specs.declared.Topics.{Topics}
@@ -31,12 +33,12 @@ use Rattle.rule.specs.declared.Protocol.{Protocol}
 use Rattle.rule.specs.declared.Identity.{Identity}
 use Rattle.rule.specs.declared.Identity.the-variants.{Agrees as Means, Differs as MeansNot}
 use Rattle.rule.specs.declared.Rule.{Rule}
-use Rattle.rule.proofs.OnePassLaws.{value-there}
+use Rattle.rule.proofs.OnePassLaws.{value-there, eq-object, eq-value, eq-topic}
 use Rattle.rule.proofs.FrontLaws.{next-behind, read-here, Fronted, front-is}
 use Rattle.store.specs.Store.{over}
 use Rattle.store.specs.View.{faultless}
 use Rattle.questions.specs.Decision.{staticAgrees}
-use Rattle.questions.specs.Parts.{coversAsked, topicsFor, headAt, WhereHead, isRule, everyRule, topicAgreesAt, textAgrees, passedTopic, someTopicFrom}
+use Rattle.questions.specs.Parts.{coversAsked, topicsFor, headAt, WhereHead, isRule, everyRule, topicAgreesAt, textAgrees, eqTextAgrees, passedTopic, someTopicFrom}
 use Rattle.questions.specs.declared.Asked.{Asked}
 use Rattle.questions.specs.declared.Head.{Head}
 use Rattle.questions.specs.declared.Head.the-variants.{Agrees, Differs}
@@ -103,6 +105,39 @@ module _ (topic line : List ℕ) (at : ℕ) where
   pub passed-plain : {end : ℕ} {b : Bool} {next : Place} → Plain line at end → textAgrees topic (take (end - (at + 1)) (drop (at + 1) line)) ≡ b → itemBehind line (end + 1) ≡ next
       → passedTopic topic line at ≡ cond b TopicAgrees (Onward next)
   passed-plain p e q = passed-by (plain-agrees p ∙ e) (next-behind line at (plain-value depthLimit line at p) ∙ q)
+
+-- a text under `eq`, by its tests
+pub eq-text-by : (topic t : List ℕ) {alike long template : Bool} → same t topic ≡ alike → over textLimit t ≡ long → isTemplate t ≡ template
+    → eqTextAgrees topic t ≡ (alike && (not long && not template))
+unfolding eqTextAgrees
+eq-text-by topic t a l p = λ i. a i && (not (l i) && not (p i))
+
+module _ (topic line : List ℕ) (at : ℕ) {opens closes end : ℕ} (q : EqTo line at opens closes end) where
+  eq-topic-agrees : topicAgreesAt topic line at ≡ eqTextAgrees topic (take (closes - (opens + 1)) (drop (opens + 1) line))
+  unfolding topicAgreesAt eqTextAgrees staticAgrees topicMeans bind
+  eq-topic-agrees =
+      let read : bind (valueOf line at) topicOf ≡ topicOf (record { at = at; value = eq-object line at q }) =
+      ap (λ (o : Option Value). bind o topicOf) (value-there 6 line at (omega arith) (eq-value line at q)) in
+      ap (λ (o : Option spec.Topic). elim o as (λ _. Bool) [ none ↦ false | some s ↦ not (over textLimit (s .text .text)) && staticAgrees topic (topicMeans s) ])
+      (read ∙ eq-topic line at q)
+      ∙ by (isTemplate t) (over textLimit t) (same t topic)
+    where
+      t : List ℕ
+      t = take (closes - (opens + 1)) (drop (opens + 1) line)
+
+      by : (template long alike : Bool) → (not long && (not template && alike)) ≡ (alike && (not long && not template))
+      by true true true = refl
+      by true true false = refl
+      by true false true = refl
+      by true false false = refl
+      by false true true = refl
+      by false true false = refl
+      by false false true = refl
+      by false false false = refl
+
+  pub passed-eq : {b : Bool} {next : Place} → eqTextAgrees topic (take (closes - (opens + 1)) (drop (opens + 1) line)) ≡ b → itemBehind line end ≡ next
+      → passedTopic topic line at ≡ cond b TopicAgrees (Onward next)
+  passed-eq e r = passed-by topic line at (eq-topic-agrees ∙ e) (next-behind line at (value-deeper 6 depthLimit line at (omega arith) (eq-value line at q)) ∙ r)
 
 -- the walk over a rule's topics, by what passing one tells
 module _ (topic line : List ℕ) (most : ℕ) {place : Place} {p : ℕ} (h : 0 < most) (e : place ≡ At p) where

@@ -5,6 +5,7 @@ use mathlib.Core.Path.{_≡_}
 use mathlib.Core.List.{List, [], _∷_}
 use mathlib.Core.Option.{Option, none, some, bind}
 use lib.ListN.{length}
+use Rattle.text.specs.Text.{same}
 use Rattle.topic.specs.Topic.{validFilter, treeMatch}
 use Rattle.json.specs.Strings.{stringAt}
 use Rattle.json.specs.Json.{lineValue}
@@ -98,6 +99,10 @@ topicAgreesAt topic line at =
 -- a filter that stands in the line as it is
 unfoldable pub textAgrees : List ℕ → List ℕ → Bool
 textAgrees topic t = treeMatch t topic && (not (over textLimit t) && (not (isTemplate t) && validFilter t))
+
+-- and a text under `eq`
+unfoldable pub eqTextAgrees : List ℕ → List ℕ → Bool
+eqTextAgrees topic t = same t topic && (not (over textLimit t) && not (isTemplate t))
 
 -- the topic at a place, when it is passed
 unfoldable pub passedTopic : List ℕ → List ℕ → ℕ → TopicPassed

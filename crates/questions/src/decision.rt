@@ -16,6 +16,7 @@ use json::strings::decode;
 use json::strings::string_is;
 use json::values::separator;
 use rule::Control;
+use rule::EqPassed;
 use rule::Front;
 use rule::Given;
 use rule::Identity;
@@ -27,6 +28,7 @@ use rule::TEXT;
 use rule::Topic;
 use rule::Topics;
 use rule::agreement::identity;
+use rule::ahead::eq_text;
 use rule::ahead::front;
 use rule::ahead::rest;
 use rule::read::read_rule;
@@ -277,21 +279,40 @@ fn element_behind(line: &[u8], at: usize) -> Place
     }
 }
 
-// The topic at this place of the rule's array: it agrees by itself, or this is the next one. A plain filter is matched where it stands.
+// The same of a text under `eq`.
+fn eq_agrees(text: &[u8], topic: &[u8]) -> bool
+    ensures { λ r. ⌜ r ≡ spec.eqTextAgrees (now (topic .entry)) (now (text .entry)) ⌝ }
+{
+    if !text::same(text, topic) {
+        return false;
+    }
+    if TEXT < text.len() {
+        return false;
+    }
+    !is_template(text)
+}
+
+// The topic at this place of the rule's array: it agrees by itself, or this is the next one. A plain text is tested where it stands.
 fn pass_topic(line: &[u8], at: usize, topic: &[u8], valid: bool) -> TopicPassed
     requires { ⌜ valid ≡ validFilter (now topic) ⌝ }
     ensures { λ r. ⌜ r ≡ spec.passedTopic (now (topic .entry)) (now (line .entry)) at ⌝ }
 {
-    let Place::At(end) = plain_text(line, at) else {
-        if topic_agrees(line, at, topic) {
+    if let Place::At(end) = plain_text(line, at) {
+        if text_agrees(&line[at + 1..end], topic, valid) {
             return TopicPassed::Agrees;
         }
-        return TopicPassed::Onward(next_item(line, at));
-    };
-    if text_agrees(&line[at + 1..end], topic, valid) {
+        return TopicPassed::Onward(element_behind(line, end + 1));
+    }
+    if let EqPassed::Text(opens, closes, behind) = eq_text(line, at) {
+        if eq_agrees(&line[opens + 1..closes], topic) {
+            return TopicPassed::Agrees;
+        }
+        return TopicPassed::Onward(element_behind(line, behind));
+    }
+    if topic_agrees(line, at, topic) {
         return TopicPassed::Agrees;
     }
-    TopicPassed::Onward(element_behind(line, end + 1))
+    TopicPassed::Onward(next_item(line, at))
 }
 
 // Is there an eq row of the rule, counted from 0, that is the topic?

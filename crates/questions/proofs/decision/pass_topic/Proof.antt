@@ -1,10 +1,11 @@
--- A plain string is tested as it stands; any other topic is read as `topic_agrees` reads it. Assumes nothing.
+-- A plain string, and one under `eq`, is tested as it stands; any other topic is read as `topic_agrees` reads it. Assumes nothing.
 use native.Mathlib.Omega.{arith}
-use mathlib.Core.Path.{refl, sym, ap, _∙_}
+use mathlib.Core.Path.{refl, sym, _∙_}
 use denote.Ref.{now}
 use Rattle.json.proofs.PlainLaws.{Plain, plain-string}
-use Rattle.questions.specs.declared.TopicPassed.the-variants.{Onward}
-use Rattle.questions.proofs.PassLaws.{passed-by, passed-plain}
+use Rattle.rule.specs.Front.{EqTo}
+use Rattle.rule.proofs.OnePassLaws.{eq-answered, eq-string}
+use Rattle.questions.proofs.PassLaws.{passed-by, passed-plain, passed-eq}
 use borrow.Author.Needs.{needs}
 use Rattle.questions.proofs.decision.pass_topic.Statement.{statement}
 use Rattle.questions.proofs.decision.pass_topic.Tie as tie
@@ -17,30 +18,20 @@ found c =
     let a = c .before .before .before .before .before .before .args in
     plain-string (now (a .line)) (a .at) (sym (c .before .before .before .plain-text .ensures) ∙ c .before .end .given .1)
 
+-- the string under `eq`
+under : (c : tie.After-known-told2) →
+    let a = c .before .before .before .before .before .before .before .before .before .args in
+    let e = c .before .opens .given .0 in
+    EqTo (now (a .line)) (a .at) (e .0) (e .1 .0) (e .1 .1 .0)
+under c =
+    let a = c .before .before .before .before .before .before .before .before .before .args in
+    eq-answered (EqTo (now (a .line)) (a .at)) (c .before .opens .given .1) (c .before .before .before .eq-text .ensures)
+
 plain-text-requires : tie.Need-plain-text-requires
 plain-text-requires c κs = search needs
 
 enum-known-end : tie.Need-enum-known-end
 enum-known-end c = search needs
-
-enum-told : tie.Need-enum-told
-enum-told c = search needs
-
-topic-agrees-requires : tie.Need-topic-agrees-requires
-topic-agrees-requires c κs = search needs
-
-returns : tie.Need-returns
-returns c =
-    let a = c .before .before .before .before .before .before .before .args in
-    sym (passed-by (now (a .topic)) (now (a .line)) (a .at) (sym (c .before .topic-agrees .ensures) ∙ c .if1 .taken) refl)
-
-next-item-requires : tie.Need-next-item-requires
-next-item-requires c κs = search needs
-
-returns-2 : tie.Need-returns-2
-returns-2 c =
-    let a = c .before .before .before .before .before .before .before .before .args in
-    sym (passed-by (now (a .topic)) (now (a .line)) (a .at) (sym (c .before .before .topic-agrees .ensures) ∙ c .before .if1 .left) (sym (c .next-item .ensures)))
 
 add-text-agrees : tie.Need-add-text-agrees
 add-text-agrees c = let p = found c in omega arith
@@ -57,10 +48,10 @@ part-text-agrees-end c = let p = found c in omega arith
 text-agrees-requires : tie.Need-text-agrees-requires
 text-agrees-requires c κs = c .before .before .before .before .before .before .before .pre
 
-returns-3 : tie.Need-returns-3
-returns-3 c =
+returns : tie.Need-returns
+returns c =
     let a = c .before .before .before .before .before .before .before .before .before .args in
-    sym (passed-plain (now (a .topic)) (now (a .line)) (a .at) (found (c .before .before .before)) (sym (c .before .text-agrees .ensures) ∙ c .if2 .taken) refl)
+    sym (passed-plain (now (a .topic)) (now (a .line)) (a .at) (found (c .before .before .before)) (sym (c .before .text-agrees .ensures) ∙ c .if1 .taken) refl)
 
 add-element-behind : tie.Need-add-element-behind
 add-element-behind c = let p = found (c .before .before .before) in omega arith
@@ -68,10 +59,78 @@ add-element-behind c = let p = found (c .before .before .before) in omega arith
 element-behind-requires : tie.Need-element-behind-requires
 element-behind-requires c κs = search needs
 
+returns-2 : tie.Need-returns-2
+returns-2 c =
+    let a = c .before .before .before .before .before .before .before .before .before .before .args in
+    sym (passed-plain (now (a .topic)) (now (a .line)) (a .at) (found (c .before .before .before .before)) (sym (c .before .before .text-agrees .ensures) ∙ c .before .if1 .left) (sym (c .element-behind .ensures)))
+
+enum-told : tie.Need-enum-told
+enum-told c = search needs
+
+eq-text-requires : tie.Need-eq-text-requires
+eq-text-requires c κs = search needs
+
+enum-known-opens : tie.Need-enum-known-opens
+enum-known-opens c = search needs
+
+add-eq-agrees : tie.Need-add-eq-agrees
+add-eq-agrees c =
+    let a = c .before .before .before .before .before .before .before .before .before .args in
+    let p = eq-string (now (a .line)) (a .at) (under c) in
+    omega arith
+
+sub-eq-agrees : tie.Need-sub-eq-agrees
+sub-eq-agrees c =
+    let a = c .before .before .before .before .before .before .before .before .before .args in
+    let p = eq-string (now (a .line)) (a .at) (under c) in
+    omega arith
+
+part-eq-agrees-start : tie.Need-part-eq-agrees-start
+part-eq-agrees-start c =
+    let a = c .before .before .before .before .before .before .before .before .before .args in
+    let p = eq-string (now (a .line)) (a .at) (under c) in
+    omega arith
+
+part-eq-agrees-end : tie.Need-part-eq-agrees-end
+part-eq-agrees-end c =
+    let a = c .before .before .before .before .before .before .before .before .before .args in
+    let p = eq-string (now (a .line)) (a .at) (under c) in
+    omega arith
+
+eq-agrees-requires : tie.Need-eq-agrees-requires
+eq-agrees-requires c κs = search needs
+
+returns-3 : tie.Need-returns-3
+returns-3 c =
+    let a = c .before .before .before .before .before .before .before .before .before .before .before .before .args in
+    sym (passed-eq (now (a .topic)) (now (a .line)) (a .at) (under (c .before .before .before)) (sym (c .before .eq-agrees .ensures) ∙ c .if2 .taken) refl)
+
+element-behind-requires-2 : tie.Need-element-behind-requires-2
+element-behind-requires-2 c κs = search needs
+
 returns-4 : tie.Need-returns-4
 returns-4 c =
+    let a = c .before .before .before .before .before .before .before .before .before .before .before .before .before .args in
+    sym (passed-eq (now (a .topic)) (now (a .line)) (a .at) (under (c .before .before .before .before)) (sym (c .before .before .eq-agrees .ensures) ∙ c .before .if2 .left) (sym (c .element-behind2 .ensures)))
+
+enum-told-2 : tie.Need-enum-told-2
+enum-told-2 c = search needs
+
+topic-agrees-requires : tie.Need-topic-agrees-requires
+topic-agrees-requires c κs = search needs
+
+returns-5 : tie.Need-returns-5
+returns-5 c =
     let a = c .before .before .before .before .before .before .before .before .before .before .args in
-    sym (passed-plain (now (a .topic)) (now (a .line)) (a .at) (found (c .before .before .before .before)) (sym (c .before .before .text-agrees .ensures) ∙ c .before .if2 .left) (sym (c .element-behind .ensures)))
+    sym (passed-by (now (a .topic)) (now (a .line)) (a .at) (sym (c .before .topic-agrees .ensures) ∙ c .if3 .taken) refl)
+
+next-item-requires : tie.Need-next-item-requires
+next-item-requires c κs = search needs
+
+returns-6 : tie.Need-returns-6
+returns-6 c =
+    let a = c .before .before .before .before .before .before .before .before .before .before .before .args in
+    sym (passed-by (now (a .topic)) (now (a .line)) (a .at) (sym (c .before .before .topic-agrees .ensures) ∙ c .before .if3 .left) (sym (c .next-item .ensures)))
 
 pub pass-topic-spec : {M : Type 1} → statement M
 pass-topic-spec =
@@ -79,17 +138,28 @@ pass-topic-spec =
     (tie.spec
     plain-text-requires
     enum-known-end
-    enum-told
-    topic-agrees-requires
-    returns
-    next-item-requires
-    returns-2
     add-text-agrees
     sub-text-agrees
     part-text-agrees-start
     part-text-agrees-end
     text-agrees-requires
-    returns-3
+    returns
     add-element-behind
     element-behind-requires
-    returns-4)
+    returns-2
+    enum-told
+    eq-text-requires
+    enum-known-opens
+    add-eq-agrees
+    sub-eq-agrees
+    part-eq-agrees-start
+    part-eq-agrees-end
+    eq-agrees-requires
+    returns-3
+    element-behind-requires-2
+    returns-4
+    enum-told-2
+    topic-agrees-requires
+    returns-5
+    next-item-requires
+    returns-6)
