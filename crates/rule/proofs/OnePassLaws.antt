@@ -312,10 +312,10 @@ pub eq-named : (line : List ℕ) (at : ℕ) {name : ℕ} {o : Place} → isAt li
 unfolding eqOf
 eq-named line at b n p = rw (b, sym n, p)
 
-pub eq-valued : (line : List ℕ) (name : ℕ) {last : ℕ} {i : Bool} {o : Place} → same (take (last - (name + 1)) (drop (name + 1) line)) (ascii "eq") ≡ i → valueBehind line (last + 1) ≡ o
+pub eq-valued : (line : List ℕ) (name last : ℕ) {i : Bool} {o : Place} → same (take (last - (name + 1)) (drop (name + 1) line)) (ascii "eq") ≡ i → valueBehind line (last + 1) ≡ o
     → eqNamed line name (At last) ≡ cond i (eqValued line o) UnreadEq
 unfolding eqNamed
-eq-valued line name e v = λ j. cond (e j) (eqValued line (v j)) UnreadEq
+eq-valued line name last e v = λ j. cond (e j) (eqValued line (v j)) UnreadEq
 
 pub eq-quoted : (line : List ℕ) (opens : ℕ) {o : Place} → plainText line opens ≡ o → eqValued line (At opens) ≡ eqQuoted line opens o
 unfolding eqValued

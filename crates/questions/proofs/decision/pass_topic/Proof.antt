@@ -4,7 +4,7 @@ use mathlib.Core.Path.{refl, sym, _∙_}
 use denote.Ref.{now}
 use Rattle.json.proofs.PlainLaws.{Plain, plain-string}
 use Rattle.rule.specs.Front.{EqTo}
-use Rattle.rule.proofs.OnePassLaws.{eq-answered, eq-string}
+use Rattle.rule.proofs.OnePassLaws.{eq-to, eq-string}
 use Rattle.questions.proofs.PassLaws.{passed-by, passed-plain, passed-eq}
 use borrow.Author.Needs.{needs}
 use Rattle.questions.proofs.decision.pass_topic.Statement.{statement}
@@ -25,7 +25,7 @@ under : (c : tie.After-known-told2) →
     EqTo (now (a .line)) (a .at) (e .0) (e .1 .0) (e .1 .1 .0)
 under c =
     let a = c .before .before .before .before .before .before .before .before .before .args in
-    eq-answered (EqTo (now (a .line)) (a .at)) (c .before .opens .given .1) (c .before .before .before .eq-text .ensures)
+    eq-to (now (a .line)) (a .at) (sym (c .before .before .before .eq-text .ensures) ∙ c .before .opens .given .1)
 
 plain-text-requires : tie.Need-plain-text-requires
 plain-text-requires c κs = search needs

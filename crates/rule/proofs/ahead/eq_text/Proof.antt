@@ -65,7 +65,7 @@ returns-3 : tie.Need-returns-3
 returns-3 c =
     sym
     (eq-named (now (c .before .before .before .before .before .before .before .before .before .before .before .before .args .line)) (c .before .before .before .before .before .before .before .before .before .before .before .before .args .at) (sym (c .before .before .before .before .before .before .before .before .before .before .is-at .ensures) ∙ not-false _ (c .before .before .before .before .before .before .before .before .before .if1 .left)) (c .before .before .before .before .before .before .before .before .skip-blanks .ensures) (sym (c .before .before .before .before .before .before .before .plain-text .ensures) ∙ c .before .before .before .before .before .end .given .1)
-    ∙ eq-valued (now (c .before .before .before .before .before .before .before .before .before .before .before .before .args .line)) _ (sym (c .before .same .ensures) ∙ not-true _ (c .if2 .taken)) refl)
+    ∙ eq-valued (now (c .before .before .before .before .before .before .before .before .before .before .before .before .args .line)) _ _ (sym (c .before .same .ensures) ∙ not-true _ (c .if2 .taken)) refl)
 
 add-value-behind : tie.Need-add-value-behind
 add-value-behind c = let p = named (c .before .before .before .before) in omega arith
@@ -84,7 +84,7 @@ unfolding eqValued
 returns-4 c =
     sym
     (eq-named (now (c .before .before .before .before .before .before .before .before .before .before .before .before .before .before .before .args .line)) (c .before .before .before .before .before .before .before .before .before .before .before .before .before .before .before .args .at) (sym (c .before .before .before .before .before .before .before .before .before .before .before .before .before .is-at .ensures) ∙ not-false _ (c .before .before .before .before .before .before .before .before .before .before .before .before .if1 .left)) (c .before .before .before .before .before .before .before .before .before .before .before .skip-blanks .ensures) (sym (c .before .before .before .before .before .before .before .before .before .before .plain-text .ensures) ∙ c .before .before .before .before .before .before .before .before .end .given .1)
-    ∙ eq-valued (now (c .before .before .before .before .before .before .before .before .before .before .before .before .before .before .before .args .line)) _ (sym (c .before .before .before .before .same .ensures) ∙ not-false _ (c .before .before .before .if2 .left)) (sym (c .before .before .value-behind .ensures) ∙ c .enum-told2 .given .1))
+    ∙ eq-valued (now (c .before .before .before .before .before .before .before .before .before .before .before .before .before .before .before .args .line)) _ _ (sym (c .before .before .before .before .same .ensures) ∙ not-false _ (c .before .before .before .if2 .left)) (sym (c .before .before .value-behind .ensures) ∙ c .enum-told2 .given .1))
 
 plain-text-requires-2 : tie.Need-plain-text-requires-2
 plain-text-requires-2 c κs = search needs
@@ -100,7 +100,7 @@ unfolding eqQuoted
 returns-5 c =
     sym
     (eq-named (now (c .before .before .before .before .before .before .before .before .before .before .before .before .before .before .before .before .before .before .before .args .line)) (c .before .before .before .before .before .before .before .before .before .before .before .before .before .before .before .before .before .before .before .args .at) (sym (c .before .before .before .before .before .before .before .before .before .before .before .before .before .before .before .before .before .is-at .ensures) ∙ not-false _ (c .before .before .before .before .before .before .before .before .before .before .before .before .before .before .before .before .if1 .left)) (c .before .before .before .before .before .before .before .before .before .before .before .before .before .before .before .skip-blanks .ensures) (sym (c .before .before .before .before .before .before .before .before .before .before .before .before .before .before .plain-text .ensures) ∙ c .before .before .before .before .before .before .before .before .before .before .before .before .end .given .1)
-    ∙ (eq-valued (now (c .before .before .before .before .before .before .before .before .before .before .before .before .before .before .before .before .before .before .before .args .line)) _ (sym (c .before .before .before .before .before .before .before .before .same .ensures) ∙ not-false _ (c .before .before .before .before .before .before .before .if2 .left)) (sym (c .before .before .before .before .before .before .value-behind .ensures) ∙ c .before .before .before .before .p .given .1)
+    ∙ (eq-valued (now (c .before .before .before .before .before .before .before .before .before .before .before .before .before .before .before .before .before .before .before .args .line)) _ _ (sym (c .before .before .before .before .before .before .before .before .same .ensures) ∙ not-false _ (c .before .before .before .before .before .before .before .if2 .left)) (sym (c .before .before .before .before .before .before .value-behind .ensures) ∙ c .before .before .before .before .p .given .1)
     ∙ eq-quoted (now (c .before .before .before .before .before .before .before .before .before .before .before .before .before .before .before .before .before .before .before .args .line)) _ (sym (c .before .before .plain-text2 .ensures) ∙ c .enum-told3 .given .1)))
 
 add-separator : tie.Need-add-separator
@@ -123,7 +123,7 @@ unfolding eqBefore
 returns-6 c =
     sym
     (eq-named (now (c .before .before .before .before .before .before .before .before .before .before .before .before .before .before .before .before .before .before .before .before .before .before .before .before .args .line)) (c .before .before .before .before .before .before .before .before .before .before .before .before .before .before .before .before .before .before .before .before .before .before .before .before .args .at) (sym (c .before .before .before .before .before .before .before .before .before .before .before .before .before .before .before .before .before .before .before .before .before .before .is-at .ensures) ∙ not-false _ (c .before .before .before .before .before .before .before .before .before .before .before .before .before .before .before .before .before .before .before .before .before .if1 .left)) (c .before .before .before .before .before .before .before .before .before .before .before .before .before .before .before .before .before .before .before .before .skip-blanks .ensures) (sym (c .before .before .before .before .before .before .before .before .before .before .before .before .before .before .before .before .before .before .before .plain-text .ensures) ∙ c .before .before .before .before .before .before .before .before .before .before .before .before .before .before .before .before .before .end .given .1)
-    ∙ (eq-valued (now (c .before .before .before .before .before .before .before .before .before .before .before .before .before .before .before .before .before .before .before .before .before .before .before .before .args .line)) _ (sym (c .before .before .before .before .before .before .before .before .before .before .before .before .before .same .ensures) ∙ not-false _ (c .before .before .before .before .before .before .before .before .before .before .before .before .if2 .left)) (sym (c .before .before .before .before .before .before .before .before .before .before .before .value-behind .ensures) ∙ c .before .before .before .before .before .before .before .before .before .p .given .1)
+    ∙ (eq-valued (now (c .before .before .before .before .before .before .before .before .before .before .before .before .before .before .before .before .before .before .before .before .before .before .before .before .args .line)) _ _ (sym (c .before .before .before .before .before .before .before .before .before .before .before .before .before .same .ensures) ∙ not-false _ (c .before .before .before .before .before .before .before .before .before .before .before .before .if2 .left)) (sym (c .before .before .before .before .before .before .before .before .before .before .before .value-behind .ensures) ∙ c .before .before .before .before .before .before .before .before .before .p .given .1)
     ∙ (eq-quoted (now (c .before .before .before .before .before .before .before .before .before .before .before .before .before .before .before .before .before .before .before .before .before .before .before .before .args .line)) _ (sym (c .before .before .before .before .before .before .before .plain-text2 .ensures) ∙ c .before .before .before .before .before .last .given .1) ∙ eq-ended (now (c .before .before .before .before .before .before .before .before .before .before .before .before .before .before .before .before .before .before .before .before .before .before .before .before .args .line)) _ _ (sym (c .before .before .before .separator .ensures) ∙ c .before .next .given .1))))
 
 returns-7 : tie.Need-returns-7
@@ -131,7 +131,7 @@ unfolding eqBefore
 returns-7 c =
     sym
     (eq-named (now (c .before .before .before .before .before .before .before .before .before .before .before .before .before .before .before .before .before .before .before .before .before .before .before .args .line)) (c .before .before .before .before .before .before .before .before .before .before .before .before .before .before .before .before .before .before .before .before .before .before .before .args .at) (sym (c .before .before .before .before .before .before .before .before .before .before .before .before .before .before .before .before .before .before .before .before .before .is-at .ensures) ∙ not-false _ (c .before .before .before .before .before .before .before .before .before .before .before .before .before .before .before .before .before .before .before .before .if1 .left)) (c .before .before .before .before .before .before .before .before .before .before .before .before .before .before .before .before .before .before .before .skip-blanks .ensures) (sym (c .before .before .before .before .before .before .before .before .before .before .before .before .before .before .before .before .before .before .plain-text .ensures) ∙ c .before .before .before .before .before .before .before .before .before .before .before .before .before .before .before .before .end .given .1)
-    ∙ (eq-valued (now (c .before .before .before .before .before .before .before .before .before .before .before .before .before .before .before .before .before .before .before .before .before .before .before .args .line)) _ (sym (c .before .before .before .before .before .before .before .before .before .before .before .before .same .ensures) ∙ not-false _ (c .before .before .before .before .before .before .before .before .before .before .before .if2 .left)) (sym (c .before .before .before .before .before .before .before .before .before .before .value-behind .ensures) ∙ c .before .before .before .before .before .before .before .before .p .given .1)
+    ∙ (eq-valued (now (c .before .before .before .before .before .before .before .before .before .before .before .before .before .before .before .before .before .before .before .before .before .before .before .args .line)) _ _ (sym (c .before .before .before .before .before .before .before .before .before .before .before .before .same .ensures) ∙ not-false _ (c .before .before .before .before .before .before .before .before .before .before .before .if2 .left)) (sym (c .before .before .before .before .before .before .before .before .before .before .value-behind .ensures) ∙ c .before .before .before .before .before .before .before .before .p .given .1)
     ∙ (eq-quoted (now (c .before .before .before .before .before .before .before .before .before .before .before .before .before .before .before .before .before .before .before .before .before .before .before .args .line)) _ (sym (c .before .before .before .before .before .before .plain-text2 .ensures) ∙ c .before .before .before .before .last .given .1) ∙ eq-ended (now (c .before .before .before .before .before .before .before .before .before .before .before .before .before .before .before .before .before .before .before .before .before .before .before .args .line)) _ _ (sym (c .before .before .separator .ensures) ∙ c .enum-told4 .given .1))))
 
 returns-8 : tie.Need-returns-8
@@ -139,7 +139,7 @@ unfolding eqBefore
 returns-8 c =
     sym
     (eq-named (now (c .before .before .before .before .before .before .before .before .before .before .before .before .before .before .before .before .before .before .before .before .before .before .before .args .line)) (c .before .before .before .before .before .before .before .before .before .before .before .before .before .before .before .before .before .before .before .before .before .before .before .args .at) (sym (c .before .before .before .before .before .before .before .before .before .before .before .before .before .before .before .before .before .before .before .before .before .is-at .ensures) ∙ not-false _ (c .before .before .before .before .before .before .before .before .before .before .before .before .before .before .before .before .before .before .before .before .if1 .left)) (c .before .before .before .before .before .before .before .before .before .before .before .before .before .before .before .before .before .before .before .skip-blanks .ensures) (sym (c .before .before .before .before .before .before .before .before .before .before .before .before .before .before .before .before .before .before .plain-text .ensures) ∙ c .before .before .before .before .before .before .before .before .before .before .before .before .before .before .before .before .end .given .1)
-    ∙ (eq-valued (now (c .before .before .before .before .before .before .before .before .before .before .before .before .before .before .before .before .before .before .before .before .before .before .before .args .line)) _ (sym (c .before .before .before .before .before .before .before .before .before .before .before .before .same .ensures) ∙ not-false _ (c .before .before .before .before .before .before .before .before .before .before .before .if2 .left)) (sym (c .before .before .before .before .before .before .before .before .before .before .value-behind .ensures) ∙ c .before .before .before .before .before .before .before .before .p .given .1)
+    ∙ (eq-valued (now (c .before .before .before .before .before .before .before .before .before .before .before .before .before .before .before .before .before .before .before .before .before .before .before .args .line)) _ _ (sym (c .before .before .before .before .before .before .before .before .before .before .before .before .same .ensures) ∙ not-false _ (c .before .before .before .before .before .before .before .before .before .before .before .if2 .left)) (sym (c .before .before .before .before .before .before .before .before .before .before .value-behind .ensures) ∙ c .before .before .before .before .before .before .before .before .p .given .1)
     ∙ (eq-quoted (now (c .before .before .before .before .before .before .before .before .before .before .before .before .before .before .before .before .before .before .before .before .before .before .before .args .line)) _ (sym (c .before .before .before .before .before .before .plain-text2 .ensures) ∙ c .before .before .before .before .last .given .1) ∙ eq-ended (now (c .before .before .before .before .before .before .before .before .before .before .before .before .before .before .before .before .before .before .before .before .before .before .before .args .line)) _ _ (sym (c .before .before .separator .ensures) ∙ c .enum-told5 .given .1))))
 
 pub eq-text-spec : {M : Type 1} → statement M
