@@ -8,8 +8,10 @@ use mathlib.Core.Option.{some}
 use lib.ListN.{length, take, drop, length-take}
 use Rattle.text.specs.Ascii.{ascii}
 use Rattle.text.specs.Text.{same}
+use Rattle.text.proofs.Laws.{same-true}
 use Rattle.json.specs.Json.{text, object, Members, isAt, skipBlanks, separatorAt, longest, longestMember}
 use Rattle.json.specs.Access.{valueHere, stringIs, lastNamed, namedIn, memberNamed}
+use Rattle.json.specs.Plain.{plainText}
 use Rattle.json.specs.declared.Separator.the-variants.{Close, Comma}
 use Rattle.json.specs.declared.Place.{Place}
 use Rattle.json.specs.declared.Place.the-variants.{At, Nowhere}
@@ -25,6 +27,8 @@ use Rattle.authinfo.specs.OnePass.{permissionOf, actionOf, quoteAt, part
 use Rattle.authinfo.specs.declared.RulePlaces.{RulePlaces}
 use Rattle.authinfo.specs.declared.RuleParts.{RuleParts}
 use Rattle.authinfo.specs.declared.Action.the-variants as action
+use Rattle.authinfo.specs.declared.PermissionRead.{PermissionRead}
+use Rattle.authinfo.specs.declared.ActionRead.{ActionRead}
 use Rattle.authinfo.specs.declared.PermissionRead.the-variants.{Is as PermissionIs, Bad as BadPermission}
 use Rattle.authinfo.specs.declared.ActionRead.the-variants.{Is as ActionIs, Bad as BadAction}
 
@@ -67,6 +71,33 @@ module _ (line : List ℕ) (at : ℕ) {end : ℕ} (p : Plain line at end) where
       }
 
 -- ---- one member more
+
+-- the parts with a member, by its name
+module _ (line name : List ℕ) (p : ℕ) (f : RuleParts) where
+  pub is-permission : {x : PermissionRead} → same name (ascii "permission") ≡ true → x ≡ permissionHere line (At p) → _≡_ {A = RuleParts} (record { permission = x; action = f .action; qos = f .qos; retain = f .retain; topic = f .topic; quote = f .quote }) (withMember line name p f)
+  unfolding withMember same
+  is-permission e h = (λ i. record { permission = h i; action = f .action; qos = f .qos; retain = f .retain; topic = f .topic; quote = f .quote }) ∙ sym (ap (λ (n : List ℕ). withMember line n p f) (same-true name (ascii "permission") e))
+
+  pub is-action : {x : ActionRead} → same name (ascii "action") ≡ true → x ≡ actionHere line (At p) → _≡_ {A = RuleParts} (record { permission = f .permission; action = x; qos = f .qos; retain = f .retain; topic = f .topic; quote = f .quote }) (withMember line name p f)
+  unfolding withMember same
+  is-action e h = (λ i. record { permission = f .permission; action = h i; qos = f .qos; retain = f .retain; topic = f .topic; quote = f .quote }) ∙ sym (ap (λ (n : List ℕ). withMember line n p f) (same-true name (ascii "action") e))
+
+  pub is-topic : {q : Place} → same name (ascii "topic") ≡ true → q ≡ plainText line p → _≡_ {A = RuleParts} (record { permission = f .permission; action = f .action; qos = f .qos; retain = f .retain; topic = At p; quote = q }) (withMember line name p f)
+  unfolding withMember same
+  is-topic e h = (λ i. record { permission = f .permission; action = f .action; qos = f .qos; retain = f .retain; topic = At p; quote = h i }) ∙ sym (ap (λ (n : List ℕ). withMember line n p f) (same-true name (ascii "topic") e))
+
+  pub is-qos : same name (ascii "qos") ≡ true → _≡_ {A = RuleParts} (record { permission = f .permission; action = f .action; qos = At p; retain = f .retain; topic = f .topic; quote = f .quote }) (withMember line name p f)
+  unfolding withMember same
+  is-qos e = sym (ap (λ (n : List ℕ). withMember line n p f) (same-true name (ascii "qos") e))
+
+  pub is-retain : same name (ascii "retain") ≡ true → _≡_ {A = RuleParts} (record { permission = f .permission; action = f .action; qos = f .qos; retain = At p; topic = f .topic; quote = f .quote }) (withMember line name p f)
+  unfolding withMember same
+  is-retain e = sym (ap (λ (n : List ℕ). withMember line n p f) (same-true name (ascii "retain") e))
+
+  pub is-other : same name (ascii "permission") ≡ false → same name (ascii "action") ≡ false → same name (ascii "topic") ≡ false → same name (ascii "qos") ≡ false
+      → same name (ascii "retain") ≡ false → f ≡ withMember line name p f
+  unfolding withMember
+  is-other a b c d e = rw (a, b, c, d, e)
 
 -- the places with that of one member more: its name, and the place of its value
 unfoldable pub withNamed : List ℕ → ℕ → RulePlaces → RulePlaces

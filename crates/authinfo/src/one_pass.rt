@@ -18,52 +18,101 @@ use json::values::value;
 use rule::TEXT;
 use rule::listed::value_behind;
 ghost use mathlib.Core.Path.{_≡_};
-ghost use mathlib.Core.Bool.{cond};
-ghost use Rattle.text.specs.Ascii.{ascii};
-ghost use Rattle.text.specs.Text.{same};
 ghost use Rattle.json.specs.Plain.{plainText};
-ghost use Rattle.json.specs.declared.Place.the-variants.{At};
 ghost use Rattle.rule.specs.OnePass as rule;
-ghost use Rattle.authinfo.specs.Places as places;
 ghost use Rattle.authinfo.specs.OnePass as spec;
 
 // How many brackets may be open inside the object.
 const INSIDE: usize = 7;
 
-// What a member with this name tells, if it is the one wanted; else what was told before.
-fn noted(name: &[u8], wanted: &[u8], here: Place, before: Place) -> Place
-    ensures { λ r. ⌜ r ≡ cond (same (now (name .entry)) (now (wanted .entry))) here before ⌝ }
+// The parts, with another for one of them.
+fn with_permission(found: RuleParts, permission: PermissionRead) -> RuleParts
+    ensures { λ r. ⌜ r ≡ record { permission = permission; action = found .action; qos = found .qos; retain = found .retain; topic = found .topic; quote = found .quote } ⌝ }
 {
-    if text::same(name, wanted) {
-        return here;
+    let action = found.action;
+    let qos = found.qos;
+    let retain = found.retain;
+    let topic = found.topic;
+    let quote = found.quote;
+    RuleParts {
+        permission,
+        action,
+        qos,
+        retain,
+        topic,
+        quote,
     }
-    before
 }
 
-fn noted_permission(
-    line: &[u8],
-    name: &[u8],
-    p: usize,
-    quote: Place,
-    before: PermissionRead,
-) -> PermissionRead
-    requires { ⌜ quote ≡ plainText (now line) p ⌝ }
-    ensures { λ r. ⌜ r ≡ cond (same (now (name .entry)) (ascii "permission")) (places.permissionHere (now (line .entry)) (At p)) before ⌝ }
+fn with_action(found: RuleParts, action: ActionRead) -> RuleParts
+    ensures { λ r. ⌜ r ≡ record { permission = found .permission; action = action; qos = found .qos; retain = found .retain; topic = found .topic; quote = found .quote } ⌝ }
 {
-    if text::same(name, b"permission") {
-        return permission_here(line, p, quote);
+    let permission = found.permission;
+    let qos = found.qos;
+    let retain = found.retain;
+    let topic = found.topic;
+    let quote = found.quote;
+    RuleParts {
+        permission,
+        action,
+        qos,
+        retain,
+        topic,
+        quote,
     }
-    before
 }
 
-fn noted_action(line: &[u8], name: &[u8], p: usize, quote: Place, before: ActionRead) -> ActionRead
-    requires { ⌜ quote ≡ plainText (now line) p ⌝ }
-    ensures { λ r. ⌜ r ≡ cond (same (now (name .entry)) (ascii "action")) (places.actionHere (now (line .entry)) (At p)) before ⌝ }
+fn with_qos(found: RuleParts, qos: Place) -> RuleParts
+    ensures { λ r. ⌜ r ≡ record { permission = found .permission; action = found .action; qos = qos; retain = found .retain; topic = found .topic; quote = found .quote } ⌝ }
 {
-    if text::same(name, b"action") {
-        return action_here(line, p, quote);
+    let permission = found.permission;
+    let action = found.action;
+    let retain = found.retain;
+    let topic = found.topic;
+    let quote = found.quote;
+    RuleParts {
+        permission,
+        action,
+        qos,
+        retain,
+        topic,
+        quote,
     }
-    before
+}
+
+fn with_retain(found: RuleParts, retain: Place) -> RuleParts
+    ensures { λ r. ⌜ r ≡ record { permission = found .permission; action = found .action; qos = found .qos; retain = retain; topic = found .topic; quote = found .quote } ⌝ }
+{
+    let permission = found.permission;
+    let action = found.action;
+    let qos = found.qos;
+    let topic = found.topic;
+    let quote = found.quote;
+    RuleParts {
+        permission,
+        action,
+        qos,
+        retain,
+        topic,
+        quote,
+    }
+}
+
+fn with_topic(found: RuleParts, topic: Place, quote: Place) -> RuleParts
+    ensures { λ r. ⌜ r ≡ record { permission = found .permission; action = found .action; qos = found .qos; retain = found .retain; topic = topic; quote = quote } ⌝ }
+{
+    let permission = found.permission;
+    let action = found.action;
+    let qos = found.qos;
+    let retain = found.retain;
+    RuleParts {
+        permission,
+        action,
+        qos,
+        retain,
+        topic,
+        quote,
+    }
 }
 
 // The parts with those of one member more: its name, the place of its value and, if that is a plain string, its closing quote.
@@ -71,20 +120,22 @@ fn with_member(line: &[u8], name: &[u8], p: usize, quote: Place, found: RulePart
     requires { ⌜ quote ≡ plainText (now line) p ⌝ }
     ensures { λ r. ⌜ r ≡ spec.withMember (now (line .entry)) (now (name .entry)) p found ⌝ }
 {
-    let permission = found.permission;
-    let action = found.action;
-    let qos = found.qos;
-    let retain = found.retain;
-    let topic = found.topic;
-    let before = found.quote;
-    RuleParts {
-        permission: noted_permission(line, name, p, quote, permission),
-        action: noted_action(line, name, p, quote, action),
-        qos: noted(name, b"qos", Place::At(p), qos),
-        retain: noted(name, b"retain", Place::At(p), retain),
-        topic: noted(name, b"topic", Place::At(p), topic),
-        quote: noted(name, b"topic", quote, before),
+    if text::same(name, b"permission") {
+        return with_permission(found, permission_here(line, p, quote));
     }
+    if text::same(name, b"action") {
+        return with_action(found, action_here(line, p, quote));
+    }
+    if text::same(name, b"topic") {
+        return with_topic(found, Place::At(p), quote);
+    }
+    if text::same(name, b"qos") {
+        return with_qos(found, Place::At(p));
+    }
+    if text::same(name, b"retain") {
+        return with_retain(found, Place::At(p));
+    }
+    found
 }
 
 fn no_parts() -> RuleParts
