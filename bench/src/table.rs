@@ -8,13 +8,11 @@ use crate::lists::Floor;
 use crate::measure::{collected, make_counted, time, Row};
 use crate::questions::Questions;
 
-pub const KINDS: [&str; 24] = [
+pub const KINDS: [&str; 25] = [
     "V", "T", "P", "P-parsed", "J", "R", "R-parsed", "C-10", "C-parsed", "floor", "Q-2", "N-10", "S-10",
-    "Q-10", "N-256u", "S-256", "Q-256", "Q-256u", "Q-64r", "Q-256r", "Q-4096r", "E-2", "E-32", "E-63",
+    "Q-10", "N-256u", "S-256", "Q-256", "Q-256u", "Q-64r", "Q-256r", "Q-4096r", "Q-4096w", "E-2", "E-32",
+    "E-63",
 ];
-
-/// Only by `--only`, since it takes minutes.
-const SLOW: &str = "Q-4096w";
 
 /// The stores that have a floor of their own.
 const STORES: [&str; 6] = ["10", "64r", "256", "256u", "256r", "4096r"];
@@ -47,7 +45,7 @@ Q, N, S   may a client publish, connect, subscribe? The first rule of the store 
           last rule: the first client's row decides, the last client's, or none
   -256r   the same with 256 rules of 8 filters, R 32,768
   -4096r  ten rules, 4,096 rows in each table, all used, whose texts are equal in their first 6 or 7 bytes
-  -4096w  the same with texts that are equal in their first 250 bytes; not in the whole table, it takes minutes
+  -4096w  the same with texts that are equal in their first 250 bytes
 E-2       events of one more client on the store of decide, ten rules, with the rows of two clients: a filter
           row and a note each, and eq rows of up to 32 names; the task that the hook spawns is awaited:
   present connected, of a client whose rows are there; each time the hook gets a session without notes, since
@@ -133,8 +131,8 @@ fn cell(value: Option<f64>, width: usize, decimals: usize) -> String {
 }
 
 pub fn print(kinds: &[&str]) -> Result<(), String> {
-    if let Some(kind) = kinds.iter().find(|kind| !KINDS.contains(kind) && **kind != SLOW) {
-        return Err(format!("no kind {kind}; there are {} and {SLOW}", KINDS.join(" ")));
+    if let Some(kind) = kinds.iter().find(|kind| !KINDS.contains(kind)) {
+        return Err(format!("no kind {kind}; there are {}", KINDS.join(" ")));
     }
     println!("{LEGEND}\n");
     println!("{HEAD}");
