@@ -86,23 +86,31 @@ static uint32_t asks(const char *name, unsigned earlier) {
 
 static uint32_t once(const char *what) {
     uint32_t sum = 0;
+    uint8_t any = 0;
     __asm__ volatile("" ::: "memory");
     if (!strcmp(what, "scan"))
-        for (size_t i = 0; i < length; i++) sum |= store[i];
+        for (size_t i = 0; i < length; i++) any |= store[i];
     if (!strcmp(what, "read"))
         for (char *line = rules, *end; (end = strchr(line, '\n')); line = end + 1) sum += acl_rule_refusal((Text)line, end - line);
     if (!strcmp(what, "check")) sum = asks("u1", 2);
     if (!strcmp(what, "second")) sum = asks("u1", 0);
     if (!strcmp(what, "none")) sum = asks("nobody", 0);
-    return sum;
+    return sum + any;
 }
 
+/* The least of nine rounds: others may use the machine. */
 static double time_of(const char *what, long repeats) {
-    struct timespec a, b;
-    clock_gettime(CLOCK_MONOTONIC, &a);
-    for (long i = 0; i < repeats; i++) sink = once(what);
-    clock_gettime(CLOCK_MONOTONIC, &b);
-    return ((b.tv_sec - a.tv_sec) * 1e9 + (b.tv_nsec - a.tv_nsec)) / repeats;
+    double least = 0;
+    for (int round = 0; round < 9; round++) {
+        struct timespec a, b;
+        long calls = repeats / 9 + 1;
+        clock_gettime(CLOCK_MONOTONIC, &a);
+        for (long i = 0; i < calls; i++) sink = once(what);
+        clock_gettime(CLOCK_MONOTONIC, &b);
+        double t = ((b.tv_sec - a.tv_sec) * 1e9 + (b.tv_nsec - a.tv_nsec)) / calls;
+        if (round == 0 || t < least) least = t;
+    }
+    return least;
 }
 
 /* The check of a store whose tables have so many rows, all alike but at their ends; with `twice` two notes are equal. */
