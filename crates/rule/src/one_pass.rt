@@ -375,7 +375,7 @@ pub(crate) fn access_end(line: &[u8]) -> AccessPassed
 }
 
 // The rule of the line, if this is one to be read in one pass.
-pub fn in_one_pass(line: &[u8]) -> RuleRead
+pub(crate) fn in_one_pass(line: &[u8]) -> RuleRead
     ensures { λ r. ⌜ spec.WhereRule r (spec.IsRule (now (line .entry))) ⌝ }
 {
     let AccessPassed::Access(allow, users) = access_end(line) else {
