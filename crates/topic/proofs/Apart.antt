@@ -1,66 +1,121 @@
--- Texts that begin with different bytes: where the filter begins with no wildcard, their first levels differ. Assumes nothing.
-use Prim.Native.Nat.{ℕ, _<_}
+-- Texts that differ at a byte up to which the filter has no wildcard: the levels of that byte differ. Assumes nothing.
+use Prim.Native.Nat.{ℕ, _+_, _<_, _≤_}
+use native.Mathlib.Numerals.{add-one}
 use native.Mathlib.Omega.{arith}
 use mathlib.Core.Path.{_≡_, refl, sym, ap, _∙_}
-use mathlib.Core.Bool.{Bool, true, false, _&&_, _||_, not, cond}
+use mathlib.Core.Bool.{Bool, true, false, _&&_, _||_, not, cond, true≢false, and-false}
 use mathlib.Core.List.{List, [], _∷_}
 use lib.Dec.{eqb}
-use lib.ListN.{length, getD}
-use borrow.Author.Tests.{eqb-true, eq-eqb}
+use lib.ListN.{length, getD, drop, drop-of-length-le}
+use lib.Seq.{drop-cons}
+use borrow.Author.Tests.{eqb-true, eq-eqb, ne-eqb}
 use Rattle.text.specs.Text.{same}
-use Rattle.topic.specs.Topic.{Level, slash, plus, hash, levels, levelsIf, isOnly, metadata, ends, passes, behind, takes, dollarRule, treeLevels}
+use Rattle.topic.specs.Topic.{Level, slash, plus, hash, levels, levelsIf, isOnly, isPlus, isHash, metadata, ends, passes, behind, takes, dollarRule, treeLevels}
 use Rattle.topic.specs.Walk.{beginsApart}
 use Rattle.topic.proofs.Scan.{Leveled, nil, start, inside, leveled, leveled-levels}
 
--- by its tests
-pub apart-no-filter : (filter text : List ℕ) → length filter ≡ 0 → beginsApart filter text ≡ false
+-- ---- by its tests, at the byte where a scan stands
+
+pub apart-end : (filter text : List ℕ) (i : ℕ) → length filter ≤ i → beginsApart (drop i filter) (drop i text) ≡ false
 unfolding beginsApart
-apart-no-filter [] text h = refl
-apart-no-filter (b ∷ filter) text h = absurd (omega arith)
+apart-end filter text i h = rw (drop-of-length-le filter h)
 
-pub apart-no-text : (filter text : List ℕ) → length text ≡ 0 → beginsApart filter text ≡ false
+pub apart-no-text : (filter text : List ℕ) (i : ℕ) → i < length filter → length text ≤ i → beginsApart (drop i filter) (drop i text) ≡ false
 unfolding beginsApart
-apart-no-text [] text h = refl
-apart-no-text (b ∷ filter) [] h = refl
-apart-no-text (b ∷ filter) (t ∷ text) h = absurd (omega arith)
+apart-no-text filter text i h k = rw (drop-cons filter i 0, drop-of-length-le text k)
 
-pub apart-by : (filter text : List ℕ) {alike single multi : Bool} → (length filter ≡ 0 → ⊥) → (length text ≡ 0 → ⊥) → eqb (getD filter 0 0) (getD text 0 0) ≡ alike
-    → eqb (getD filter 0 0) plus ≡ single → eqb (getD filter 0 0) hash ≡ multi → beginsApart filter text ≡ (not alike && (not single && not multi))
+apart-step : (filter text : List ℕ) (i : ℕ) → i < length filter → i < length text
+    → beginsApart (drop i filter) (drop i text)
+    ≡ cond (eqb (getD filter i 0) plus) false
+    (cond (eqb (getD filter i 0) hash) false (cond (eqb (getD filter i 0) (getD text i 0)) (beginsApart (drop (i + 1) filter) (drop (i + 1) text)) true))
 unfolding beginsApart
-apart-by [] text h k a s m = absurd (h refl)
-apart-by (b ∷ filter) [] h k a s m = absurd (k refl)
-apart-by (b ∷ filter) (t ∷ text) h k a s m = λ i. not (a i) && (not (s i) && not (m i))
+apart-step filter text i h k = rw (add-one, drop-cons filter i 0, drop-cons text i 0)
 
--- T of levels of which the first begin so
-apart-taken : {b t : ℕ} {filter text : List ℕ} {f l : Level} {fs ls : List Level} → Leveled (b ∷ filter) f fs → Leveled (t ∷ text) l ls
-    → eqb b t ≡ false → eqb b plus ≡ false → eqb b hash ≡ false → treeLevels (f ∷ fs) (l ∷ ls) ≡ false
-unfolding treeLevels dollarRule takes passes behind isOnly same metadata
-apart-taken {b} {t} (start p d) (start q e) a s m = let z : _≡_ {A = Bool} true false = sym (eq-eqb b t (eqb-true b slash p ∙ sym (eqb-true t slash q))) ∙ a in let y : _≡_ {A = ℕ} 0 1 = cc in absurd (omega arith)
-apart-taken (start p d) (inside q e) a s m = refl
-apart-taken (inside p d) (start q e) a s m = rw (s, m)
-apart-taken (inside p d) (inside q e) a s m = rw (s, m, a)
+pub apart-at : (filter text : List ℕ) (i : ℕ) {single multi alike : Bool} → i < length filter → i < length text → eqb (getD filter i 0) plus ≡ single → eqb (getD filter i 0) hash ≡ multi
+    → eqb (getD filter i 0) (getD text i 0) ≡ alike
+    → beginsApart (drop i filter) (drop i text) ≡ cond single false (cond multi false (cond alike (beginsApart (drop (i + 1) filter) (drop (i + 1) text)) true))
+apart-at filter text i h k s m a =
+    apart-step filter text i h k ∙ (λ j. cond (s j) false (cond (m j) false (cond (a j) (beginsApart (drop (i + 1) filter) (drop (i + 1) text)) true)))
 
-apart-ends : {b : ℕ} {filter : List ℕ} {f : Level} {fs : List Level} → Leveled (b ∷ filter) f fs → eqb b hash ≡ false → treeLevels (f ∷ fs) [] ≡ false
-unfolding treeLevels dollarRule takes ends isOnly same
-apart-ends (start p d) m = refl
-apart-ends (inside p d) m = rw m
+-- ---- T of such texts
+
+-- at the first byte: no wildcard, and the same beyond it or another byte
+record First (b t : ℕ) (filter text : List ℕ) : Type 0 where
+  single : eqb b plus ≡ false
+  multi : eqb b hash ≡ false
+  rest : eqb b t ≡ true → beginsApart filter text ≡ true
+
+first : (b t : ℕ) (filter text : List ℕ) → beginsApart (b ∷ filter) (t ∷ text) ≡ true → First b t filter text
+unfolding beginsApart
+first b t filter text e = by (eqb b plus) (eqb b hash) (eqb b t) refl refl refl e
+  where
+    by : (single multi alike : Bool) → eqb b plus ≡ single → eqb b hash ≡ multi → eqb b t ≡ alike
+        → cond single false (cond multi false (cond alike (beginsApart filter text) true)) ≡ true → First b t filter text
+    by true multi alike s m a q = absurd (true≢false (sym q))
+    by false true alike s m a q = absurd (true≢false (sym q))
+    by false false true s m a q = record { single = s; multi = m; rest = λ h. q }
+    by false false false s m a q = record { single = s; multi = m; rest = λ h. absurd (true≢false (sym h ∙ a)) }
+
+-- the filter's first level is no wildcard
+no-hash : {filter : List ℕ} (text : List ℕ) {f : Level} {fs : List Level} → Leveled filter f fs → beginsApart filter text ≡ true → isHash f ≡ false
+unfolding beginsApart isOnly same
+no-hash text nil e = refl
+no-hash text (start p d) e = refl
+no-hash [] (inside p d) e = absurd (true≢false (sym e))
+no-hash (t ∷ text) (inside {b} {text = filter} p d) e = rw (first b t filter text e .multi)
+
+no-plus : {filter : List ℕ} (text : List ℕ) {f : Level} {fs : List Level} → Leveled filter f fs → beginsApart filter text ≡ true → isPlus f ≡ false
+unfolding beginsApart isOnly same
+no-plus text nil e = refl
+no-plus text (start p d) e = refl
+no-plus [] (inside p d) e = absurd (true≢false (sym e))
+no-plus (t ∷ text) (inside {b} {text = filter} p d) e = rw (first b t filter text e .single)
+
+-- a level that is no wildcard takes its equal
+plain-takes : (f l : Level) (fs ls : List Level) → isHash f ≡ false → isPlus f ≡ false → takes false (f ∷ fs) (l ∷ ls) ≡ (same f l && takes false fs ls)
+unfolding takes passes behind
+plain-takes f l fs ls h p = by (same f l) refl
+  where
+    by : (b : Bool) → same f l ≡ b → takes false (f ∷ fs) (l ∷ ls) ≡ (b && takes false fs ls)
+    by true e = rw (h, p, e)
+    by false e = rw (h, p, e)
+
+-- the first levels differ, or what is behind them doesn't match
+apart-rest : {filter text : List ℕ} {f l : Level} {fs ls : List Level} → Leveled filter f fs → Leveled text l ls → beginsApart filter text ≡ true
+    → (same f l && takes false fs ls) ≡ false
+unfolding beginsApart same
+apart-rest nil c e = absurd (true≢false (sym e))
+apart-rest (start p d) nil e = absurd (true≢false (sym e))
+apart-rest (inside p d) nil e = absurd (true≢false (sym e))
+apart-rest (start {b} {text = filter} p d) (start {b = t} {text = text} q c) e =
+    let next = first b t filter text e .rest (eq-eqb b t (eqb-true b slash p ∙ sym (eqb-true t slash q))) in
+    plain-takes _ _ _ _ (no-hash text d next) (no-plus text d next) ∙ apart-rest d c next
+apart-rest (start p d) (inside q c) e = refl
+apart-rest (inside p d) (start q c) e = refl
+apart-rest (inside {b} {text = filter} {level = f} {rest = fs} p d) (inside {b = t} {text = text} {level = l} {rest = ls} q c) e =
+    by (eqb b t) refl (λ a. apart-rest d c (first b t filter text e .rest a))
+  where
+    by : (alike : Bool) → eqb b t ≡ alike → (eqb b t ≡ true → (same f l && takes false fs ls) ≡ false) → ((eqb b t && same f l) && takes false fs ls) ≡ false
+    by true a h = rw a (h a)
+    by false a h = rw a
+
+apart-taken : {filter text : List ℕ} {f l : Level} {fs ls : List Level} → Leveled filter f fs → Leveled text l ls → beginsApart filter text ≡ true
+    → treeLevels (f ∷ fs) (l ∷ ls) ≡ false
+unfolding treeLevels
+apart-taken {text = text} {f} {l} {fs} {ls} d c e =
+    ap (λ (b : Bool). not (dollarRule (f ∷ fs) (l ∷ ls)) && b) (plain-takes f l fs ls (no-hash text d e) (no-plus text d e) ∙ apart-rest d c e) ∙ and-false (not (dollarRule (f ∷ fs) (l ∷ ls)))
+
+apart-ends : {filter : List ℕ} (text : List ℕ) {f : Level} {fs : List Level} → Leveled filter f fs → beginsApart filter text ≡ true → treeLevels (f ∷ fs) [] ≡ false
+unfolding treeLevels dollarRule takes ends
+apart-ends text d e = no-hash text d e
 
 pub apart-differs : (filter text : List ℕ) (valid : Bool) → beginsApart filter text ≡ true → treeLevels (levels filter) (levelsIf valid text) ≡ false
-unfolding beginsApart levelsIf
-apart-differs [] text valid e = let z : _≡_ {A = ℕ} 0 1 = cc in absurd (omega arith)
-apart-differs (b ∷ filter) [] valid e = let z : _≡_ {A = ℕ} 0 1 = cc in absurd (omega arith)
-apart-differs (b ∷ filter) (t ∷ text) valid e = by (eqb b t) (eqb b plus) (eqb b hash) refl refl refl e
+unfolding levelsIf
+apart-differs filter text valid e = at valid
   where
-    at : (v : Bool) → eqb b t ≡ false → eqb b plus ≡ false → eqb b hash ≡ false → treeLevels (levels (b ∷ filter)) (cond v (levels (t ∷ text)) []) ≡ false
-    at true a s m =
-        let f = leveled (b ∷ filter) in
-        let l = leveled (t ∷ text) in
-        (λ i. treeLevels (leveled-levels (f .2) i) (leveled-levels (l .2) i)) ∙ apart-taken (f .2) (l .2) a s m
-    at false a s m = let f = leveled (b ∷ filter) in ap (λ (fs : List Level). treeLevels fs []) (leveled-levels (f .2)) ∙ apart-ends (f .2) m
-
-    by : (alike single multi : Bool) → eqb b t ≡ alike → eqb b plus ≡ single → eqb b hash ≡ multi → (not alike && (not single && not multi)) ≡ true
-        → treeLevels (levels (b ∷ filter)) (cond valid (levels (t ∷ text)) []) ≡ false
-    by true single multi a s m q = let z : _≡_ {A = ℕ} 0 1 = cc in absurd (omega arith)
-    by false true multi a s m q = let z : _≡_ {A = ℕ} 0 1 = cc in absurd (omega arith)
-    by false false true a s m q = let z : _≡_ {A = ℕ} 0 1 = cc in absurd (omega arith)
-    by false false false a s m q = at valid a s m
+    at : (v : Bool) → treeLevels (levels filter) (cond v (levels text) []) ≡ false
+    at true =
+        let f = leveled filter in
+        let l = leveled text in
+        (λ i. treeLevels (leveled-levels (f .2) i) (leveled-levels (l .2) i)) ∙ apart-taken (f .2) (l .2) e
+    at false = let f = leveled filter in ap (λ (fs : List Level). treeLevels fs []) (leveled-levels (f .2)) ∙ apart-ends text (f .2) e

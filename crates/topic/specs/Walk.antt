@@ -48,8 +48,8 @@ stepped guarded filter text w =
     (cond (ltb (length filter) (w .filter)) (answered w false)
     (advanced filter text w (passes guarded (levelAt filter (w .filter)) (levelAt text (w .text))))))
 
--- the two begin with different bytes, and the filter with no wildcard
+-- the two differ at a byte, and up to it the filter has no wildcard
 unfoldable pub beginsApart : List ℕ → List ℕ → Bool
 beginsApart [] text = false
 beginsApart (b ∷ filter) [] = false
-beginsApart (b ∷ filter) (t ∷ text) = not (eqb b t) && (not (eqb b plus) && not (eqb b hash))
+beginsApart (b ∷ filter) (t ∷ text) = cond (eqb b plus) false (cond (eqb b hash) false (cond (eqb b t) (beginsApart filter text) true))

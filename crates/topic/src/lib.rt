@@ -213,27 +213,31 @@ fn dollar_rule(filter: &[u8], text: &[u8]) -> bool
     is_only(level, b'#')
 }
 
-// Do the two begin with different bytes, and the filter with no wildcard? Their first levels then differ.
+// Do the two differ at a byte up to which the filter has no wildcard? They then differ in the level of that byte.
 fn begins_apart(filter: &[u8], text: &[u8]) -> bool
     ensures { λ r. ⌜ r ≡ places.beginsApart (now (filter .entry)) (now (text .entry)) ⌝ }
 {
-    if filter.len() == 0 {
-        return false;
+    let mut i = 0;
+    while i < filter.len() {
+        if text.len() <= i {
+            return false;
+        }
+        let b = filter[i];
+        if b == b'+' {
+            return false;
+        }
+        if b == b'#' {
+            return false;
+        }
+        if b != text[i] {
+            return true;
+        }
+        i += 1;
     }
-    if text.len() == 0 {
-        return false;
-    }
-    let b = filter[0];
-    if b == text[0] {
-        return false;
-    }
-    if b == b'+' {
-        return false;
-    }
-    b != b'#'
+    false
 }
 
-// Tree match T, by a caller who knows whether the checked text is a valid filter. Most filters differ from it at the first byte.
+// Tree match T, by a caller who knows whether the checked text is a valid filter. Most filters differ from it before their first wildcard.
 pub fn tree_match_known(filter: &[u8], text: &[u8], valid: bool) -> bool
     ensures { λ r. ⌜ r ≡ spec.treeLevels (spec.levels (now (filter .entry))) (spec.levelsIf valid (now (text .entry))) ⌝ }
 {
