@@ -94,11 +94,6 @@ module _ (q : Question) (id : List ℕ) (name : Option (List ℕ)) where
       by (Refused cause) = refl
       by (Says v) = ap (λ (k : ℕ). from (orHit found v n) k rest) (sym (add-one n))
 
--- the place behind a line's end is the next line's
-pub next-behind : (text : List ℕ) (at : ℕ) {end next : ℕ} → end ≡ at + length (lineAt text at) → next ≡ cond (ltb end (length text)) (end + 1) (length text) → next ≡ nextLine text at
-unfolding nextLine
-next-behind text at e f = f ∙ ap (λ (k : ℕ). cond (ltb k (length text)) (k + 1) (length text)) e
-
 -- an earlier hit stays before a later one
 unfoldable orLater : FirstHit → FirstHit → FirstHit
 orLater (Rule k allow) later = Rule k allow

@@ -8,6 +8,7 @@ use crate::Verdict;
 use crate::reading::asked_qos;
 use crate::reading::line_says;
 use json::splitting::count_lines;
+use json::splitting::line_behind;
 use json::splitting::line_end;
 use rule::Given;
 use rule::ID;
@@ -15,10 +16,7 @@ use rule::LINES;
 use rule::Refusal;
 use rule::TEXT;
 ghost use mathlib.Core.Path.{_≡_};
-ghost use mathlib.Core.Bool.{false, cond};
-ghost use Prim.Native.Nat.{_+_};
-ghost use lib.Dec.{ltb};
-ghost use lib.ListN.{length};
+ghost use mathlib.Core.Bool.{false};
 ghost use Rattle.json.specs.Lines.{lines};
 ghost use Rattle.rule.specs.Places.{given};
 ghost use Rattle.authinfo.specs.Decision as decision;
@@ -42,16 +40,6 @@ fn or_hit(found: FirstHit, verdict: Verdict, n: usize) -> FirstHit
         Verdict::Allows => FirstHit::Rule(n, true),
         Verdict::Denies => FirstHit::Rule(n, false),
     }
-}
-
-// Where the line behind one that ends at `end` begins; the text's length where there is none.
-fn line_behind(text: &[u8], end: usize) -> usize
-    ensures { λ r. ⌜ r ≡ cond (ltb end (length (now (text .entry)))) (end + 1) (length (now (text .entry))) ⌝ }
-{
-    if end < text.len() {
-        return end + 1;
-    }
-    text.len()
 }
 
 // The first rule of the text that hits, or its first faulty line.

@@ -2,14 +2,14 @@
 use Prim.Native.Nat.{ℕ, zero, suc, _+_, _-_, _≤_, _<_}
 use native.Mathlib.Numerals.{add-one}
 use native.Mathlib.Omega.{arith}
-use mathlib.Core.Path.{_≡_, refl, sym, ap}
+use mathlib.Core.Path.{_≡_, refl, sym, ap, _∙_}
 use mathlib.Core.Bool.{Bool, true, false, _&&_, not, cond}
 use mathlib.Core.List.{List, [], _∷_}
 use lib.Dec.{eqb, leb, ltb, leb·zero, leb·suc-zero, leb·suc-suc}
 use lib.ListN.{length, getD, take, drop, length-drop, drop-of-length-le}
 use lib.Seq.{drop-cons, drop-drop, getD-drop}
 use borrow.Author.Tests.{eq-eqb, ne-eqb, leb-true, ltb-true, ltb-false}
-use Rattle.json.specs.Lines.{lf, extendLine, withByte, lines, firstLine, lineAt, nextLine, countUpTo}
+use Rattle.json.specs.Lines.{lf, extendLine, withByte, lines, firstLine, lineAt, lineBehind, nextLine, countUpTo}
 
 -- past the text there is no line
 pub lines-past : (text : List ℕ) (at : ℕ) → length text ≤ at → lines (drop at text) ≡ []
@@ -107,8 +107,13 @@ line-within text at h = omega (arith, first-within (drop at text), length-drop a
 -- the next line, by whether the line ends before the text
 pub next-by : (text : List ℕ) (at : ℕ) {within : Bool} → ltb (at + length (lineAt text at)) (length text) ≡ within →
     nextLine text at ≡ cond within (at + length (lineAt text at) + 1) (length text)
-unfolding nextLine
+unfolding nextLine lineBehind
 next-by text at e = λ i. cond (e i) (at + length (lineAt text at) + 1) (length text)
+
+-- and from where the line ends
+pub next-from-end : (text : List ℕ) (at : ℕ) {end next : ℕ} → end ≡ at + length (lineAt text at) → next ≡ lineBehind text end → next ≡ nextLine text at
+unfolding nextLine
+next-from-end text at e f = f ∙ ap (lineBehind text) e
 
 pub next-within : (text : List ℕ) (at : ℕ) → nextLine text at ≤ length text
 next-within text at = is (ltb (at + length (lineAt text at)) (length text)) refl

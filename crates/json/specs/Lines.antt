@@ -31,9 +31,13 @@ firstLine (b ∷ text) = cond (eqb b lf) [] (b ∷ firstLine text)
 unfoldable pub lineAt : List ℕ → ℕ → List ℕ
 lineAt text at = firstLine (drop at text)
 
--- the offset of the next line: behind the LF, or the text's end
+-- the offset of the line behind one that ends at a place: behind the LF, or the text's end
+unfoldable pub lineBehind : List ℕ → ℕ → ℕ
+lineBehind text end = cond (ltb end (length text)) (end + 1) (length text)
+
+-- the offset of the line behind the one that begins at an offset
 unfoldable pub nextLine : List ℕ → ℕ → ℕ
-nextLine text at = cond (ltb (at + length (lineAt text at)) (length text)) (at + length (lineAt text at) + 1) (length text)
+nextLine text at = lineBehind text (at + length (lineAt text at))
 
 -- the number of lines, or one more than `most` where there are more
 unfoldable pub countUpTo : ℕ → List ℕ → ℕ

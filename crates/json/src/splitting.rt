@@ -82,16 +82,22 @@ pub fn line_at(text: &[u8], at: usize) -> &[u8]
     &text[at..end]
 }
 
-// The offset of the line behind the one that begins at `at`; the text's length where there is none.
-pub fn next_line(text: &[u8], at: usize) -> usize
-    ensures { λ r. ⌜ r ≡ spec.nextLine (now (text .entry)) at ⌝ }
+// The offset of the line behind one that ends at `end`; the text's length where there is none.
+pub fn line_behind(text: &[u8], end: usize) -> usize
+    ensures { λ r. ⌜ r ≡ spec.lineBehind (now (text .entry)) end ⌝ }
 {
-    let end = line_end(text, at);
     if end < text.len() {
         end + 1
     } else {
         text.len()
     }
+}
+
+// The offset of the line behind the one that begins at `at`.
+pub fn next_line(text: &[u8], at: usize) -> usize
+    ensures { λ r. ⌜ r ≡ spec.nextLine (now (text .entry)) at ⌝ }
+{
+    line_behind(text, line_end(text, at))
 }
 
 // The number of lines, or one more than `most` where there are more.

@@ -12,10 +12,10 @@ use Rattle.text.specs.Text.{same}
 use Rattle.topic.specs.Topic.{levels, levelsIf, validFilter, treeLevels, checkedLevels, treeMatch}
 use Rattle.json.specs.Json.{text, separatorAt, depthLimit, lineValue}
 use Rattle.json.specs.Access.{nextItem}
-use Rattle.json.specs.Lines.{lines, lineAt, nextLine}
+use Rattle.json.specs.Lines.{lines, lineAt, lineBehind, nextLine}
 use Rattle.json.specs.declared.Place.{Place}
 use Rattle.json.specs.declared.Place.the-variants.{At}
-use Rattle.json.proofs.LineLaws.{lines-here}
+use Rattle.json.proofs.LineLaws.{lines-here, next-from-end}
 use Rattle.json.proofs.PlainLaws.{Plain, plain-value}
 use Rattle.json.proofs.ValueLaws.{value-deeper}
 use Rattle.rule.specs.Limits.{textLimit, linesLimit}
@@ -240,6 +240,5 @@ faultless-every t = by (ltb linesLimit (length (lines t))) (record { cause = Too
 
 -- the place of the next line, from the end of this one
 pub next-line : (rules : List ℕ) (at : ℕ) {line : List ℕ} {next : ℕ} → line ≡ lineAt rules at
-    → next ≡ cond (ltb (at + length line) (length rules)) (at + length line + 1) (length rules) → next ≡ nextLine rules at
-unfolding nextLine
-next-line rules at l e = e ∙ ap (λ (s : List ℕ). cond (ltb (at + length s) (length rules)) (at + length s + 1) (length rules)) l
+    → next ≡ lineBehind rules (at + length line) → next ≡ nextLine rules at
+next-line rules at l e = next-from-end rules at (ap (λ (s : List ℕ). at + length s) l) e

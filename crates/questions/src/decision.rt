@@ -12,6 +12,7 @@ use json::access::first_element;
 use json::access::next_item;
 use json::access::plain_text;
 use json::splitting::line_at;
+use json::splitting::line_behind;
 use json::strings::decode;
 use json::strings::string_is;
 use json::values::separator;
@@ -39,13 +40,12 @@ use store::rows::filter_owner;
 use store::rows::filter_text;
 use store::rows::numbered_text;
 use table::number_at;
+use topic::begins_apart;
 use topic::tree_match;
 use topic::tree_match_known;
 use topic::valid_filter;
 ghost use mathlib.Core.Path.{_≡_};
-ghost use mathlib.Core.Bool.{true, cond};
-ghost use Prim.Native.Nat.{_+_};
-ghost use lib.Dec.{ltb};
+ghost use mathlib.Core.Bool.{true};
 ghost use lib.ListN.{length};
 ghost use Rattle.topic.specs.Topic.{validFilter};
 ghost use Rattle.json.specs.Lines.{lines};
@@ -251,11 +251,14 @@ fn topic_agrees(line: &[u8], at: usize, topic: &[u8]) -> bool
     }
 }
 
-// Does the text, a filter as it stands in the line, agree by itself? Most don't match; what does must be a rule's filter and no template.
+// Does the text, a filter as it stands in the line, agree by itself? Most begin apart; what matches must be a rule's filter and no template.
 fn text_agrees(text: &[u8], topic: &[u8], valid: bool) -> bool
     requires { ⌜ valid ≡ validFilter (now topic) ⌝ }
     ensures { λ r. ⌜ r ≡ spec.textAgrees (now (topic .entry)) (now (text .entry)) ⌝ }
 {
+    if begins_apart(text, topic) {
+        return false;
+    }
     if !tree_match_known(text, topic, valid) {
         return false;
     }
@@ -420,16 +423,6 @@ pub fn rule_agrees(
         return true;
     }
     filter_row_agrees(filters, rule, id, topic, valid_filter(topic))
-}
-
-// The offset of the line behind one that ends at this place.
-fn line_behind(rules: &[u8], end: usize) -> usize
-    ensures { λ r. ⌜ r ≡ cond (ltb end (length (now (rules .entry)))) (end + 1) (length (now (rules .entry))) ⌝ }
-{
-    if end < rules.len() {
-        return end + 1;
-    }
-    rules.len()
 }
 
 // "The first rule whose control, users and topics all agree decides." With `checked`, each line is known to be a rule.

@@ -66,14 +66,14 @@ fn part_end(line: &[u8], at: usize, longest: usize) -> Place
     }
 }
 
-// Is the text a template, or a valid filter?
+// Is the text a template, or a valid filter? Most are valid, so that is tested first.
 fn is_topic(text: &[u8]) -> bool
     ensures { λ r. ⌜ r ≡ (rule.isTemplate (now (text .entry)) || validFilter (now (text .entry))) ⌝ }
 {
-    if is_template(text) {
+    if topic::valid_filter(text) {
         return true;
     }
-    topic::valid_filter(text)
+    is_template(text)
 }
 
 // The place behind an object at this place whose only member is a plain `eq`.

@@ -10,7 +10,7 @@ use lib.ListN.{length, getD, drop, drop-of-length-le}
 use lib.Seq.{drop-cons}
 use borrow.Author.Tests.{eqb-true, eq-eqb, ne-eqb}
 use Rattle.text.specs.Text.{same}
-use Rattle.topic.specs.Topic.{Level, slash, plus, hash, levels, levelsIf, isOnly, isPlus, isHash, metadata, ends, passes, behind, takes, dollarRule, treeLevels}
+use Rattle.topic.specs.Topic.{Level, slash, plus, hash, levels, levelsIf, isOnly, isPlus, isHash, metadata, ends, passes, behind, takes, dollarRule, treeLevels, validFilter, checkedLevels, treeMatch}
 use Rattle.topic.specs.Walk.{beginsApart}
 use Rattle.topic.proofs.Scan.{Leveled, nil, start, inside, leveled, leveled-levels}
 
@@ -119,3 +119,8 @@ apart-differs filter text valid e = at valid
         let l = leveled text in
         (λ i. treeLevels (leveled-levels (f .2) i) (leveled-levels (l .2) i)) ∙ apart-taken (f .2) (l .2) e
     at false = let f = leveled filter in ap (λ (fs : List Level). treeLevels fs []) (leveled-levels (f .2)) ∙ apart-ends text (f .2) e
+
+-- so T says no
+pub apart-no-match : (filter text : List ℕ) → beginsApart filter text ≡ true → treeMatch filter text ≡ false
+unfolding treeMatch checkedLevels
+apart-no-match filter text e = apart-differs filter text (validFilter text) e

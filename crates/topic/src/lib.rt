@@ -213,8 +213,8 @@ fn dollar_rule(filter: &[u8], text: &[u8]) -> bool
     is_only(level, b'#')
 }
 
-// Do the two differ at a byte up to which the filter has no wildcard? They then differ in the level of that byte.
-fn begins_apart(filter: &[u8], text: &[u8]) -> bool
+// Do the two differ at a byte up to which the filter has no wildcard? They then differ in the level of that byte, and T says no.
+pub fn begins_apart(filter: &[u8], text: &[u8]) -> bool
     ensures { λ r. ⌜ r ≡ places.beginsApart (now (filter .entry)) (now (text .entry)) ⌝ }
 {
     let mut i = 0;
@@ -237,13 +237,10 @@ fn begins_apart(filter: &[u8], text: &[u8]) -> bool
     false
 }
 
-// Tree match T, by a caller who knows whether the checked text is a valid filter. Most filters differ from it before their first wildcard.
+// Tree match T, by a caller who knows whether the checked text is a valid filter.
 pub fn tree_match_known(filter: &[u8], text: &[u8], valid: bool) -> bool
     ensures { λ r. ⌜ r ≡ spec.treeLevels (spec.levels (now (filter .entry))) (spec.levelsIf valid (now (text .entry))) ⌝ }
 {
-    if begins_apart(filter, text) {
-        return false;
-    }
     if !valid {
         return ends_at(filter, 0);
     }
@@ -253,10 +250,13 @@ pub fn tree_match_known(filter: &[u8], text: &[u8], valid: bool) -> bool
     takes(filter, text, 0, false)
 }
 
-// Tree match T: does the filter take the checked text?
+// Tree match T: does the filter take the checked text? Most differ before the filter's first wildcard.
 pub fn tree_match(filter: &[u8], text: &[u8]) -> bool
     ensures { λ r. ⌜ r ≡ spec.treeMatch (now (filter .entry)) (now (text .entry)) ⌝ }
 {
+    if begins_apart(filter, text) {
+        return false;
+    }
     tree_match_known(filter, text, valid_filter(text))
 }
 

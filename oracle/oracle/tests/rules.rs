@@ -13,7 +13,7 @@ fn rules_by_hand() {
     let topics = |n: usize| format!(r#"["allow","all","all",[{}]]"#, vec!["\"a\""; n].join(","));
     let line = |n: usize| format!("{:n$}", r#"["allow","all"]"#);
     for (line, verdict) in [
-        // RUST-FINDINGS, D1 and D2, (c) 4, 7 and 8.
+        // Numbers and depths that serde_json reads and document 01 refuses; templates that are no filters; members of other kinds.
         (r#"["allow",{"protocol":4.0}]"#.to_string(), Verdict::Number),
         (r#"["allow","all","all",[],-1]"#.into(), Verdict::Number),
         (r#"["deny",-0]"#.into(), Verdict::Refused(5)),

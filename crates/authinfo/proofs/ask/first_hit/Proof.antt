@@ -6,12 +6,12 @@ use Prim.Native.Nat.{ℕ, _+_, _-_, _≤_}
 use native.Mathlib.Omega.{arith}
 use lib.ListN.{length, take, drop}
 use Rattle.json.specs.Lines.{lines, nextLine}
-use Rattle.json.proofs.LineLaws.{lines-past, line-part, line-within, next-after}
+use Rattle.json.proofs.LineLaws.{lines-past, line-part, line-within, next-after, next-from-end}
 use Rattle.rule.specs.Places.{given}
 use Rattle.authinfo.specs.Places.{questionOf}
 use Rattle.authinfo.specs.declared.FirstHit.the-variants.{NoRule}
 use Rattle.authinfo.specs.declared.LineRead.{LineRead}
-use Rattle.authinfo.proofs.AskLaws.{from, onLine, on-line, from-first, next-behind}
+use Rattle.authinfo.proofs.AskLaws.{from, onLine, on-line, from-first}
 use borrow.Author.Needs.{needs}
 use Rattle.authinfo.proofs.ask.first_hit.Statement.{statement}
 use Rattle.authinfo.proofs.ask.first_hit.Tie as tie
@@ -43,7 +43,7 @@ by-line c e =
 
 -- the next line
 next : (c : tie.After-line-behind Inv-loop μ-loop) → c .line-behind .result ≡ nextLine (now (c .before .before .before .before .before .before .before .before .before .before .before .before .before .before .args .rules)) (c .before .before .before .before .before .before .before .before .before .loop .at)
-next c = next-behind (now (c .before .before .before .before .before .before .before .before .before .before .before .before .before .before .args .rules)) (c .before .before .before .before .before .before .before .before .before .loop .at) (c .before .before .before .before .before .before .before .line-end .ensures) (c .line-behind .ensures)
+next c = next-from-end (now (c .before .before .before .before .before .before .before .before .before .before .before .before .before .before .args .rules)) (c .before .before .before .before .before .before .before .before .before .loop .at) (c .before .before .before .before .before .before .before .line-end .ensures) (c .line-behind .ensures)
 
 loop-holds : tie.Need-loop-holds Inv-loop μ-loop
 loop-holds c = (omega arith, refl)
