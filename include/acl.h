@@ -173,7 +173,7 @@ enum acl_what {
 /* The parts of the number that a question, or acl_expired, has answered, so that a caller has no arithmetic to do. Proved too: any
    number is taken, and from its parts the whole answer is read back. Nothing is lent. */
 
-/* What is answered, an acl_what; 15 of a number that is no answer. */
+/* What is answered, an acl_what: the number modulo 16. No answer has 15. */
 uint8_t acl_answer_what(uint64_t answer);
 
 /* Does the answer allow? A kept code doesn't: it is a refusal. No decision doesn't either; what follows is the caller's. */

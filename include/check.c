@@ -1,5 +1,5 @@
 /* Tests of acl.h. What is read from an answer's number, on every number that an answer can be and up to the largest; each call with NULL and
-   length 0 for each address, each flag at its largest value, each text at its longest and one past it, each number that can be
+   length 0 for each address, each flag at every value, each text at its longest and one past it, each number that can be
    refused up to the largest; each inline call, with texts that tell its parameters apart. Built and run by include/check. */
 #include <stdio.h>
 #include <stdlib.h>

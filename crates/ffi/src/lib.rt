@@ -1,4 +1,4 @@
-// The library for C and Rust: what a host calls, under names that begin with `acl_`. Of the repository only `vectors` calls it. A lent
+// The library for C and Rust: what a host calls, under names that begin with `acl_`. Of the crates only `vectors` calls it. A lent
 // text, and a store, crosses as its address and its length, a flag as a byte; `acl_open` and the events write the store, the questions only
 // read it. Answers on a store are the numbers of specs/Answers.antt, and `unpacking` takes them apart.
 pub mod clients;

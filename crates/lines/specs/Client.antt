@@ -57,14 +57,14 @@ questionBy word es = cond (same word (ascii "subscribe")) (subscribeIn es) (cond
 unfoldable pub questionIn : Elements → Option Question
 questionIn es = bind (bind (nth 0 es) asString) (λ word. questionBy word es)
 
--- "output number, word (allow, refuse, drop, none, error), rule": the decision's word
+-- the word of a decision and its rule (DECISIONS, 49)
 unfoldable pub decisionSaid : Decision → Said
 decisionSaid (subscribes rule qos) = says Allow rule
 decisionSaid (publishes rule) = says Allow rule
 decisionSaid (not-authorized rule disconnect) = refusedWith rule disconnect
 decisionSaid no-decision = says NoDecision 0
 
--- "or after error number and line"
+-- and of a reply: behind `error` its number and its line
 unfoldable pub replySaid : Reply → Said
 replySaid (refuses n line) = refusedAt n line
 replySaid (decides d) = decisionSaid d

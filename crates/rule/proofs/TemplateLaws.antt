@@ -39,7 +39,7 @@ rules-below n m id name (r ∷ rules) h =
     (topics-below n m id name (listed r) (omega arith))
     (rules-below (suc n) m id name rules (omega arith))
 
--- "its rule's number, counted from 0", is below the number of lines
+-- its rule's number, counted from 0, is below the number of lines
 pub filled-below : (t id : List ℕ) (name : Option (List ℕ)) → Below (length (lines t)) (filled t id name)
 unfolding filled rulesOf
 filled-below t id name =
