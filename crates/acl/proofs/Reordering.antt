@@ -18,7 +18,7 @@ use Rattle.events.specs.Event.{Event, effect}
 use Rattle.events.proofs.EventLaws.{Alike, alike-refl, alike-trans, effect-alike, effect-commutes}
 use Rattle.acl.specs.Demand3.{run, Outcome, outcomes, plainRun, shares, Rearranged, Demand3, Permuted, SameRows, malformed, laid-out, Agree}
 use Rattle.acl.proofs.SharingLaws.{shares-sym, shares-apart}
-use Rattle.acl.proofs.RunLaws.{step, effects, view-run, run-malformed, run-effects}
+use Rattle.acl.proofs.RunLaws.{step, effects, outcomes-plain, view-run, run-malformed, run-effects}
 use Rattle.acl.proofs.Positions.{Reordered, done, more, rearranged-reordered}
 
 step-alike : (x : Outcome) {v w : View} → Alike v w → Alike (step x v) (step x w)
@@ -112,7 +112,13 @@ reordering s es fs r = at (view s) refl
     at none h =
         let still = run-malformed es s h in
         let same = still ∙ sym (run-malformed fs s h) in
-        record { rows = malformed (ap view still ∙ h) same; alike = λ q. ap (ask q) same; machine = view-run es s; plain = plain }
+        record {
+          rows = malformed (ap view still ∙ h) same;
+          alike = λ q. ap (ask q) same;
+          refusals = outcomes-plain es s;
+          machine = view-run es s;
+          plain = plain;
+        }
     at (some v) h =
         let left = run-effects es s v h in
         let right = run-effects fs s v h in
@@ -120,6 +126,7 @@ reordering s es fs r = at (view s) refl
         record {
           rows = same-rows _ _ _ _ left right held;
           alike = λ q. ap (askView q) left ∙ (alike-answers q held ∙ sym (ap (askView q) right));
+          refusals = outcomes-plain es s;
           machine = view-run es s;
           plain = plain;
         }

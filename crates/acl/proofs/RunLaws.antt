@@ -10,7 +10,7 @@ use Rattle.store.specs.View.{view}
 use Rattle.store.proofs.ViewLaws.{view-well-formed, view-of-layout}
 use Rattle.events.specs.Event.{Event, effect, cause, given, stored, after, refused}
 use Rattle.events.proofs.AcceptedLaws.{effect-well-formed}
-use Rattle.acl.specs.Demand3.{run, Outcome, outcomes, plainStep, plainRun}
+use Rattle.acl.specs.Demand3.{run, Outcome, outcomes, plainStep, plainRun, plainOutcomes}
 
 -- the effect of an event of a run, if it was accepted
 unfoldable pub step : Outcome → View → View
@@ -53,6 +53,13 @@ pub view-run : (es : List Event) (s : List ℕ) → view (run es s) ≡ plainRun
 unfolding run plainRun
 view-run [] s = refl
 view-run (e ∷ es) s = view-run es (after e s) ∙ ap (plainRun es) (view-after e s)
+
+-- an event of a run is refused exactly if the plain machine's has a cause
+pub outcomes-plain : (es : List Event) (s : List ℕ) → outcomes es s ≡ plainOutcomes es (view s)
+unfolding outcomes refused plainOutcomes
+outcomes-plain [] s = refl
+outcomes-plain (e ∷ es) s =
+    ap (λ l. (e, given (cause e (view s))) ∷ l) (outcomes-plain es (after e s) ∙ ap (plainOutcomes es) (view-after e s))
 
 -- what a run comes to: the effects of its accepted events
 pub run-effects : (es : List Event) (s : List ℕ) (v : View) → view s ≡ some v → view (run es s) ≡ some (effects (outcomes es s) v)

@@ -39,6 +39,11 @@ unfoldable pub plainRun : List Event → Option View → Option View
 plainRun [] o = o
 plainRun (e ∷ es) o = plainRun es (plainStep e o)
 
+-- each event of the plain machine's run, and whether it has a cause on the view that it finds
+unfoldable pub plainOutcomes : List Event → Option View → List Outcome
+plainOutcomes [] o = []
+plainOutcomes (e ∷ es) o = (e, given (cause e o)) ∷ plainOutcomes es (plainStep e o)
+
 -- the number and the client id of an event; "a session end has its number alone"
 unfoldable pub session : Event → ℕ
 session (connected n id name) = n
@@ -93,10 +98,11 @@ pub data SameRows (s t : List ℕ) : Type 0 where
 
 -- what demand 3 says of two runs from equal stores, of which `s` stands for both: "both stores afterwards hold the same rows .. with
 -- everything else alike byte for byte, and they give every later question the same answer", the plain machine's, which "begins with the
--- starting store and takes the list's events alone, in order"
+-- starting store and takes the list's events alone, in order"; and "An event is refused, there and in the code, exactly if it has a cause"
 pub record Agree (s : List ℕ) (es fs : List Event) : Type 0 where
   pub rows : SameRows (run es s) (run fs s)
   pub alike : (q : Question) → ask q (run es s) ≡ ask q (run fs s)
+  pub refusals : outcomes es s ≡ plainOutcomes es (view s)
   pub machine : view (run es s) ≡ plainRun es (view s)
   pub plain : (q : Question) → ask q (run es s) ≡ askView q (plainRun es (view s))
 

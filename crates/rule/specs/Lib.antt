@@ -9,3 +9,4 @@ pub mod Agreement
 pub mod Members
 pub mod OnePass
 pub mod Front
+pub mod Marked

@@ -13,7 +13,8 @@ use Rattle.text.specs.Text.{same}
 use Rattle.text.proofs.Laws.{same-true, same-itself, same-unequal}
 use Rattle.topic.specs.Topic.{Level, plus, hash, levels, isOnly, isPlus, isHash, wildcardFree, isLast, validLevels, validFilter, ends, passes, behind, takes, dollarRule, treeLevels, levelsIf, checkedLevels, treeMatch, plainMatch}
 use Rattle.topic.specs.declared.Passed.the-variants.{Onward, Answer}
-use Rattle.topic.specs.Mqtt47.{multi, single, dollar, At, Characters, Filter, Name, Literal, Takes, nothing, equal, single-level, multi-level, Matches, NoDollarLevel, first}
+use Rattle.topic.specs.Mqtt47.{multi, single, dollar, At, Filter, Name, Literal, Takes, nothing, equal, single-level, multi-level, Matches, first}
+use Rattle.topic.specs.Demand2.{Filter47, Tree47, Plain47}
 use Rattle.topic.proofs.Scan.{leveled, leveled-levels}
 use Rattle.topic.proofs.Positions.{valid-places}
 use Rattle.topic.proofs.Levels.{splits, splits-levels, front, metadata-front, Plain, plain-levels}
@@ -149,11 +150,11 @@ takes-filter : {filter : List ℕ} → Filter filter → (name : List ℕ) → (
 takes-filter f name = (takes-levels (valid-filter f) (levels name), levels-take)
 
 -- the valid filters of document 01 are the topic filters of 4.7
-pub filter-47 : (text : List ℕ) → Characters text → (validFilter text ≡ true) ↔ Filter text
+pub filter-47 : Filter47
 filter-47 text c = (λ e. let p = valid-places text .0 e in record { characters = c; multi-level = p .0; single-level = p .1 }, filter-valid)
 
 -- on topic filters and topic names, Tree match T is the matching of 4.7
-pub tree-47 : (filter name : List ℕ) → Filter filter → Name name → (treeMatch filter name ≡ true) ↔ Matches filter name
+pub tree-47 : Tree47
 unfolding treeMatch treeLevels checkedLevels levelsIf
 tree-47 filter name f n =
     rw (name-valid n)
@@ -161,7 +162,7 @@ tree-47 filter name f n =
     (Iff·trans (Iff·and (rule-dollar filter name (valid-filter f)) (takes-filter f name)) (matches filter name)))
 
 -- Plain match P is too, on names of which no level begins with `$`
-pub plain-47 : (filter name : List ℕ) → Filter filter → Name name → NoDollarLevel name → (plainMatch filter name ≡ true) ↔ Matches filter name
+pub plain-47 : Plain47
 unfolding plainMatch
 plain-47 filter name f n h =
     rw (unguarded (levels filter) (levels name) (plain-levels name h))

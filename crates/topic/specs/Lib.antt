@@ -1,3 +1,4 @@
 pub mod Topic
 pub mod Walk
 pub mod Mqtt47
+pub mod Demand2

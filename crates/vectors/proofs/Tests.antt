@@ -10,6 +10,7 @@ use borrow.Author.Tests.{ne-eqb}
 use Rattle.text.specs.Ascii.{ascii}
 use Rattle.text.specs.Text.{same}
 use Rattle.text.proofs.Laws.{same-lengths}
+use Rattle.ffi.specs.Rules.{flag, yes}
 use Rattle.vectors.specs.declared.judging.Kind.{Kind}
 use Rattle.vectors.specs.declared.judging.Named.{Named}
 use Rattle.vectors.specs.declared.judging.Named.the-variants.{Nothing}
@@ -75,6 +76,12 @@ unfolding number
 number-none [] l = refl
 number-none (a ∷ []) l = refl
 number-none (a ∷ b ∷ text) l = absurd (omega arith)
+
+-- a test told as a flag is read back
+pub flag-back : {n : ℕ} {is : Bool} → n ≡ yes is → flag n ≡ is
+unfolding flag yes
+flag-back {is = true} e = rw e
+flag-back {is = false} e = rw e
 
 -- the line by what its first field names
 pub judge-by : (line word : List ℕ) {named n : Named} → named ≡ kindOf word → word ≡ field 0 line → named ≡ n → judge line ≡ judgeNamed line n

@@ -1,6 +1,6 @@
 // The fields of a recorded line, which have a TAB between them. `judging` reads a line by them.
 ghost use mathlib.Core.Path.{_≡_};
-ghost use Rattle.ffi.specs.Rules.{flag};
+ghost use Rattle.ffi.specs.Rules.{yes};
 ghost use Rattle.vectors.specs.Fields as spec;
 
 // What stands behind the first `n` TABs of the line; nothing where it has fewer.
@@ -49,9 +49,9 @@ pub fn is_given(text: &[u8]) -> bool
     text.len() > 0 && text[0] == b'='
 }
 
-// A test as a flag that an exported function takes.
+// A test as a flag that an exported function takes: 1 where it holds, else 0.
 pub fn flag(is: bool) -> u8
-    ensures { λ r. ⌜ flag r ≡ is ⌝ }
+    ensures { λ r. ⌜ r ≡ yes is ⌝ }
 {
     if is {
         return 1;
@@ -61,7 +61,7 @@ pub fn flag(is: bool) -> u8
 
 // The flag of this field's optional value.
 pub fn given_flag(text: &[u8]) -> u8
-    ensures { λ r. ⌜ flag r ≡ spec.isGiven (now (text .entry)) ⌝ }
+    ensures { λ r. ⌜ r ≡ yes (spec.isGiven (now (text .entry))) ⌝ }
 {
     flag(is_given(text))
 }

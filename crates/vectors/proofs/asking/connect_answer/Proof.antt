@@ -1,6 +1,7 @@
 -- Each call has its part of the question. Assumes nothing.
 use Rattle.vectors.specs.Asking.{textIn, clientOf, connectOf}
 use borrow.Author.Needs.{needs}
+use Rattle.vectors.proofs.Tests.{flag-back}
 use Rattle.vectors.proofs.asking.connect_answer.Statement.{statement}
 use Rattle.vectors.proofs.asking.connect_answer.Tie as tie
 
@@ -57,8 +58,8 @@ unfolding textIn clientOf connectOf
 returns c =
     let r = c .before .before .before .before .before in
     let s = r .before .before .before .before .before in
-    rw (c .acl-connect .ensures, c .before .digit2 .ensures, c .before .before .field6 .ensures, c .before .before .before .lent3 .ensures, c .before .before .before .before .given-flag3 .ensures)
-    (rw (r .lent2 .ensures, r .before .given-flag2 .ensures, r .before .before .lent .ensures, r .before .before .before .given-flag .ensures, r .before .before .before .before .field5 .ensures)
+    rw (c .acl-connect .ensures, c .before .digit2 .ensures, c .before .before .field6 .ensures, c .before .before .before .lent3 .ensures, flag-back (c .before .before .before .before .given-flag3 .ensures))
+    (rw (r .lent2 .ensures, flag-back (r .before .given-flag2 .ensures), r .before .before .lent .ensures, flag-back (r .before .before .before .given-flag .ensures), r .before .before .before .before .field5 .ensures)
     (rw (s .digit .ensures, s .before .field4 .ensures, s .before .before .field3 .ensures, s .before .before .before .field2 .ensures, s .before .before .before .before .field .ensures)))
 
 pub connect-answer-spec : {M : Type 1} → statement M

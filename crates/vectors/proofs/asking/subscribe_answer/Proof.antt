@@ -1,6 +1,7 @@
 -- Each call has its part of the question. Assumes nothing.
 use Rattle.vectors.specs.Asking.{textIn, clientOf, protocolOf, subscribeOf}
 use borrow.Author.Needs.{needs}
+use Rattle.vectors.proofs.Tests.{flag-back}
 use Rattle.vectors.proofs.asking.subscribe_answer.Statement.{statement}
 use Rattle.vectors.proofs.asking.subscribe_answer.Tie as tie
 
@@ -74,8 +75,8 @@ returns c =
     let s = r .before .before .before .before .before in
     let p = s .before .before .before .before .before in
     rw (c .acl-subscribe .ensures, c .before .digit3 .ensures, c .before .before .field8 .ensures, c .before .before .before .field7 .ensures, c .before .before .before .before .digit2 .ensures)
-    (rw (r .given-flag4 .ensures, r .before .lent3 .ensures, r .before .before .given-flag3 .ensures, r .before .before .before .lent2 .ensures, r .before .before .before .before .given-flag2 .ensures)
-    (rw (s .lent .ensures, s .before .given-flag .ensures, s .before .before .field6 .ensures, s .before .before .before .digit .ensures, s .before .before .before .before .field5 .ensures)
+    (rw (flag-back (r .given-flag4 .ensures), r .before .lent3 .ensures, flag-back (r .before .before .given-flag3 .ensures), r .before .before .before .lent2 .ensures, flag-back (r .before .before .before .before .given-flag2 .ensures))
+    (rw (s .lent .ensures, flag-back (s .before .given-flag .ensures), s .before .before .field6 .ensures, s .before .before .before .digit .ensures, s .before .before .before .before .field5 .ensures)
     (rw (p .field4 .ensures, p .before .field3 .ensures, p .before .before .field2 .ensures, p .before .before .before .field .ensures))))
 
 pub subscribe-answer-spec : {M : Type 1} → statement M

@@ -1,6 +1,7 @@
 -- Each call has its part of the definition. Assumes nothing.
 use Rattle.vectors.specs.Clients.{clientIn, publishAnswer}
 use borrow.Author.Needs.{needs}
+use Rattle.vectors.proofs.Tests.{flag-back}
 use Rattle.vectors.proofs.clients.publish_answer.Statement.{statement}
 use Rattle.vectors.proofs.clients.publish_answer.Tie as tie
 
@@ -55,10 +56,10 @@ acl-client-publish-requires c κs = search needs
 returns : tie.Need-returns
 unfolding publishAnswer clientIn
 returns c =
-    rw (c .acl-client-publish .ensures, c .before .field7 .ensures, c .before .before .given-flag4 .ensures, c .before .before .before .field6 .ensures)
-    (rw (c .before .before .before .before .given-flag3 .ensures, c .before .before .before .before .before .field5 .ensures, c .before .before .before .before .before .before .number .ensures, c .before .before .before .before .before .before .before .field4 .ensures)
-    (rw (c .before .before .before .before .before .before .before .before .rest .ensures, c .before .before .before .before .before .before .before .before .before .lent .ensures, c .before .before .before .before .before .before .before .before .before .before .given-flag2 .ensures, c .before .before .before .before .before .before .before .before .before .before .before .field3 .ensures)
-    (rw (c .before .before .before .before .before .before .before .before .before .before .before .before .given-flag .ensures, c .before .before .before .before .before .before .before .before .before .before .before .before .before .field2 .ensures, c .before .before .before .before .before .before .before .before .before .before .before .before .before .before .field .ensures))))
+    rw (c .acl-client-publish .ensures, c .before .field7 .ensures, flag-back (c .before .before .given-flag4 .ensures), c .before .before .before .field6 .ensures)
+    (rw (flag-back (c .before .before .before .before .given-flag3 .ensures), c .before .before .before .before .before .field5 .ensures, c .before .before .before .before .before .before .number .ensures, c .before .before .before .before .before .before .before .field4 .ensures)
+    (rw (c .before .before .before .before .before .before .before .before .rest .ensures, c .before .before .before .before .before .before .before .before .before .lent .ensures, flag-back (c .before .before .before .before .before .before .before .before .before .before .given-flag2 .ensures), c .before .before .before .before .before .before .before .before .before .before .before .field3 .ensures)
+    (rw (flag-back (c .before .before .before .before .before .before .before .before .before .before .before .before .given-flag .ensures), c .before .before .before .before .before .before .before .before .before .before .before .before .before .field2 .ensures, c .before .before .before .before .before .before .before .before .before .before .before .before .before .before .field .ensures))))
 
 pub publish-answer-spec : {M : Type 1} → statement M
 publish-answer-spec =

@@ -1,6 +1,7 @@
 -- Each call has its part of the definition. Assumes nothing.
 use Rattle.vectors.specs.Clients.{clientIn, subscribeAnswer}
 use borrow.Author.Needs.{needs}
+use Rattle.vectors.proofs.Tests.{flag-back}
 use Rattle.vectors.proofs.clients.subscribe_answer.Statement.{statement}
 use Rattle.vectors.proofs.clients.subscribe_answer.Tie as tie
 
@@ -44,8 +45,8 @@ returns : tie.Need-returns
 unfolding subscribeAnswer clientIn
 returns c =
     rw (c .acl-client-subscribe .ensures, c .before .field5 .ensures, c .before .before .number .ensures, c .before .before .before .field4 .ensures)
-    (rw (c .before .before .before .before .rest .ensures, c .before .before .before .before .before .lent .ensures, c .before .before .before .before .before .before .given-flag2 .ensures, c .before .before .before .before .before .before .before .field3 .ensures)
-    (rw (c .before .before .before .before .before .before .before .before .given-flag .ensures, c .before .before .before .before .before .before .before .before .before .field2 .ensures, c .before .before .before .before .before .before .before .before .before .before .field .ensures)))
+    (rw (c .before .before .before .before .rest .ensures, c .before .before .before .before .before .lent .ensures, flag-back (c .before .before .before .before .before .before .given-flag2 .ensures), c .before .before .before .before .before .before .before .field3 .ensures)
+    (rw (flag-back (c .before .before .before .before .before .before .before .before .given-flag .ensures), c .before .before .before .before .before .before .before .before .before .field2 .ensures, c .before .before .before .before .before .before .before .before .before .before .field .ensures)))
 
 pub subscribe-answer-spec : {M : Type 1} → statement M
 subscribe-answer-spec =

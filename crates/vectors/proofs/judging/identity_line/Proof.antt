@@ -2,6 +2,7 @@
 use Rattle.vectors.specs.Asking.{textIn}
 use Rattle.vectors.specs.Judging.{identityAsked, asked}
 use borrow.Author.Needs.{needs}
+use Rattle.vectors.proofs.Tests.{flag-back}
 use Rattle.vectors.proofs.judging.identity_line.Statement.{statement}
 use Rattle.vectors.proofs.judging.identity_line.Tie as tie
 
@@ -72,8 +73,8 @@ returns c =
     let r = n .before .before in
     let f = r .before .before in
     rw (c .verdict .ensures, c .before .is-digit .ensures, c .before .before .field6 .ensures, i .acl-identity .ensures)
-    (rw (i .before .number .ensures, i .before .before .given-flag4 .ensures, a .lent3 .ensures, a .before .given-flag3 .ensures)
-    (rw (p .lent2 .ensures, p .before .given-flag2 .ensures, n .lent .ensures, n .before .given-flag .ensures)
+    (rw (i .before .number .ensures, flag-back (i .before .before .given-flag4 .ensures), a .lent3 .ensures, flag-back (a .before .given-flag3 .ensures))
+    (rw (p .lent2 .ensures, flag-back (p .before .given-flag2 .ensures), n .lent .ensures, flag-back (n .before .given-flag .ensures))
     (rw (r .field5 .ensures, r .before .rest .ensures, f .field4 .ensures, f .before .field3 .ensures, f .before .before .field2 .ensures, f .before .before .before .field .ensures))))
 
 pub identity-line-spec : {M : Type 1} → statement M
