@@ -16,9 +16,9 @@ use json::splitting::line_behind;
 use json::strings::decode;
 use json::strings::string_is;
 use json::values::separator;
+use rule::AccessPassed;
 use rule::Control;
 use rule::EqPassed;
-use rule::Front;
 use rule::Given;
 use rule::Identity;
 use rule::Protocol;
@@ -28,10 +28,12 @@ use rule::RuleRead;
 use rule::TEXT;
 use rule::Topic;
 use rule::Topics;
+use rule::UsersPassed;
 use rule::agreement::identity;
 use rule::ahead::eq_text;
-use rule::ahead::front;
 use rule::ahead::rest;
+use rule::one_pass::access_end;
+use rule::one_pass::users_end;
 use rule::read::read_rule;
 use rule::topic_list::is_template;
 use rule::topic_list::topic_at;
@@ -155,7 +157,10 @@ fn front_head(
     requires { ⌜ spec.isRule (readRule (now line)) ≡ true ⌝ }
     ensures { λ r. ⌜ spec.WhereHead r (spec.headAt (record { id = now (id .entry); name = given name (now (names .entry)); password = given password (now (passwords .entry)); address = given address (now (addresses .entry)); protocol = spec.protocolOf protocol }) asked (now (line .entry))) ⌝ }
 {
-    let Front::Users(allow, users, end) = front(line) else {
+    let AccessPassed::Access(allow, at) = access_end(line) else {
+        return HeadRead::Unread;
+    };
+    let UsersPassed::Users(users, end) = users_end(line, allow, at) else {
         return HeadRead::Unread;
     };
     let Identity::Agrees(superuser) = identity(

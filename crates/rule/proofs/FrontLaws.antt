@@ -25,7 +25,7 @@ use Rattle.rule.specs.RuleText.{gives, readRule}
 use Rattle.rule.specs.Places.{wordOf, placedRule, fourthOf, ruleAnswer, nextPart, partsHere, topicsHere, tooMany, controlOfWord, controlHere, usersOfPlace, withTopics, withControl, withUsers, ruleBehind, withAccess, accessAt, ruleHere}
 use Rattle.rule.specs.OnePass.{FromUsers, IsRule}
 use Rattle.rule.specs.Members.{MembersTo, UsersTo, usersListed}
-use Rattle.rule.specs.Front.{accessOfWord, accessTold, accessBefore, wordBetween, accessFrom, accessOf, usersBefore, usersWithin, usersUpTo, frontWith, frontBehind, frontOf, topicsBefore, restWith, wordFrom, restBehind, restOf, AccessTo, itemBehind, behindUsers, FrontTo, topicsFound, ControlAt, WordFrom, RestFrom}
+use Rattle.rule.specs.Front.{accessOfWord, accessTold, accessBefore, wordBetween, accessFrom, accessOf, usersBefore, usersWithin, usersUpTo, topicsBefore, restWith, wordFrom, restBehind, restOf, AccessTo, itemBehind, behindUsers, FrontTo, topicsFound, ControlAt, WordFrom, RestFrom}
 use Rattle.rule.specs.declared.Word.{Word}
 use Rattle.rule.specs.declared.Word.the-variants.{Allow, Deny, All as WordAll, Connect, Publish, Subscribe, Pubsub, Other}
 use Rattle.rule.specs.declared.Control.{Control}
@@ -47,8 +47,6 @@ use Rattle.rule.specs.declared.RuleRead.the-variants.{Rule as RuleIs, Re
 use Rattle.rule.specs.declared.Parts.{Parts}
 use Rattle.rule.specs.declared.AccessPassed.{AccessPassed}
 use Rattle.rule.specs.declared.AccessPassed.the-variants.{Access, Unread as UnreadAccess}
-use Rattle.rule.specs.declared.Front.{Front}
-use Rattle.rule.specs.declared.Front.the-variants.{Users as FrontUsers, Unread as UnreadFront}
 use Rattle.rule.specs.declared.Rest.{Rest}
 use Rattle.rule.specs.declared.Rest.the-variants.{Rest as RestIs, Unread as UnreadRest}
 use Rattle.rule.proofs.WordLaws.{word-here}
@@ -292,25 +290,8 @@ unfolding wordFrom wordBetween
 word-rest line at p w q = ap (wordFrom line at) p ∙ (λ i. restWith (q i) (w i))
 
 -- where they are answered
-pub front-told : (line : List ℕ) {allow : Bool} {users : Users} {end : ℕ} → frontOf line ≡ FrontUsers allow users end → FrontTo line allow users end
-unfolding frontOf frontBehind frontWith
-front-told line {allow} {users} {end} e = by-access (accessOf line) refl e
-  where
-    no : {A : Type 0} → UnreadFront ≡ FrontUsers allow users end → A
-    no q = let z : _≡_ {A = ℕ} 0 1 = cc in absurd (omega arith)
-
-    by-users : (b : Bool) (at : ℕ) → accessOf line ≡ Access b at → (u : UsersPassed) → usersUpTo line b at ≡ u → frontWith b u ≡ FrontUsers allow users end → FrontTo line allow users end
-    by-users b at q UnreadUsers w k = no k
-    by-users b at q (PassedUsers found next) w k =
-        subst (λ (f : Front). Told f) k (front-to (access-to line q) (users-to line b at w))
-      where
-        Told : Front → Type 0
-        Told UnreadFront = Unit {0}
-        Told (FrontUsers c d n) = FrontTo line c d n
-
-    by-access : (a : AccessPassed) → accessOf line ≡ a → frontBehind line a ≡ FrontUsers allow users end → FrontTo line allow users end
-    by-access UnreadAccess q k = no k
-    by-access (Access b at) q k = by-users b at q (usersUpTo line b at) refl k
+pub front-told : (line : List ℕ) {allow : Bool} {users : Users} {at end : ℕ} → accessOf line ≡ Access allow at → usersUpTo line allow at ≡ PassedUsers users end → FrontTo line allow users end
+front-told line {at = at} e f = front-to (access-to line e) (users-to line _ at f)
 
 pub rest-told : (line : List ℕ) (end : ℕ) {control : Control} {topics : Topics} → restOf line end ≡ RestIs control topics → RestFrom line end control topics
 unfolding restOf restBehind wordFrom restWith topicsBefore topicsFound separated wordBetween

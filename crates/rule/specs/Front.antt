@@ -36,8 +36,6 @@ use Rattle.rule.specs.declared.RuleRead.{RuleRead}
 use Rattle.rule.specs.declared.RuleRead.the-variants.{Refused}
 use Rattle.rule.specs.declared.AccessPassed.{AccessPassed}
 use Rattle.rule.specs.declared.AccessPassed.the-variants.{Access, Unread as UnreadAccess}
-use Rattle.rule.specs.declared.Front.{Front}
-use Rattle.rule.specs.declared.Front.the-variants.{Users as FrontUsers, Unread as UnreadFront}
 use Rattle.rule.specs.declared.EqPassed.{EqPassed}
 use Rattle.rule.specs.declared.EqPassed.the-variants.{Text as EqText, Unread as UnreadEq}
 use Rattle.rule.specs.declared.Rest.{Rest}
@@ -91,18 +89,6 @@ usersWithin line allow at (some r) =
 
 unfoldable pub usersUpTo : List ℕ → Bool → ℕ → UsersPassed
 usersUpTo line allow at = usersWithin line allow at (valueAt 7 line at)
-
--- both
-unfoldable pub frontWith : Bool → UsersPassed → Front
-frontWith allow UnreadUsers = UnreadFront
-frontWith allow (PassedUsers users end) = FrontUsers allow users end
-
-unfoldable pub frontBehind : List ℕ → AccessPassed → Front
-frontBehind line UnreadAccess = UnreadFront
-frontBehind line (Access allow at) = frontWith allow (usersUpTo line allow at)
-
-unfoldable pub frontOf : List ℕ → Front
-frontOf line = frontBehind line (accessOf line)
 
 -- a control and the topics behind it: all where none stand there, else by their place; nothing where the word isn't plain or is no control
 unfoldable pub topicsBefore : Control → Separator → Rest

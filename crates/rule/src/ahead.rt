@@ -1,16 +1,12 @@
-// A rule's line from its front, no further than is asked: access and users, then control and the place of the topics. A caller who knows
-// that the line is a rule need not read on where the users differ. Where a word isn't plain nothing is answered.
-use crate::AccessPassed;
+// What stands behind the users of a rule's line, no further than is asked: control and the place of the topics. A caller who knows that the
+// line is a rule reads access and users first (`one_pass`) and need not read on where they differ. Where a word isn't plain nothing is
+// answered.
 use crate::Control;
 use crate::ControlRead;
 use crate::EqPassed;
-use crate::Front;
 use crate::Rest;
 use crate::Topics;
-use crate::UsersPassed;
 use crate::listed::value_behind;
-use crate::one_pass::access_end;
-use crate::one_pass::users_end;
 use crate::words::control_of;
 use crate::words::word_of;
 use json::Place;
@@ -22,19 +18,6 @@ use json::values::skip_blanks;
 ghost use mathlib.Core.Path.{_≡_};
 ghost use Rattle.json.specs.Plain.{plainText};
 ghost use Rattle.rule.specs.Front as spec;
-
-// The access and the users of the line, and the place behind them.
-pub fn front(line: &[u8]) -> Front
-    ensures { λ r. ⌜ r ≡ spec.frontOf (now (line .entry)) ⌝ }
-{
-    let AccessPassed::Access(allow, at) = access_end(line) else {
-        return Front::Unread;
-    };
-    let UsersPassed::Users(users, end) = users_end(line, allow, at) else {
-        return Front::Unread;
-    };
-    Front::Users(allow, users, end)
-}
 
 // The control and the topics behind users that end before this place.
 pub fn rest(line: &[u8], at: usize) -> Rest

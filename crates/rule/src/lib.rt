@@ -3,7 +3,7 @@ pub mod agreement;
 pub mod ahead;
 pub mod fill;
 pub mod listed;
-mod one_pass;
+pub mod one_pass;
 pub mod read;
 pub mod topic_list;
 pub mod words;
@@ -119,12 +119,6 @@ pub enum UsersPassed {
 // The access of a line and the place of its users; or that it was not read.
 pub enum AccessPassed {
     Access(bool, usize),
-    Unread,
-}
-
-// A line up to its users: the access, the users and the place behind them; or that they were not read.
-pub enum Front {
-    Users(bool, Users, usize),
     Unread,
 }
 

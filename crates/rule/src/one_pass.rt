@@ -291,7 +291,7 @@ fn everyone_end(line: &[u8], allow: bool, at: usize) -> UsersPassed
 }
 
 // The users at this place, and the place behind them.
-pub(crate) fn users_end(line: &[u8], allow: bool, at: usize) -> UsersPassed
+pub fn users_end(line: &[u8], allow: bool, at: usize) -> UsersPassed
     ensures { λ r. ⌜ r ≡ front.usersUpTo (now (line .entry)) allow at ⌝ }
 {
     if let UsersPassed::Users(everyone, behind) = everyone_end(line, allow, at) {
@@ -356,7 +356,7 @@ fn access_of(word: Word, users: usize) -> AccessPassed
 }
 
 // The access of the line, if it is a plain word, and the place of the users.
-pub(crate) fn access_end(line: &[u8]) -> AccessPassed
+pub fn access_end(line: &[u8]) -> AccessPassed
     ensures { λ r. ⌜ r ≡ front.accessOf (now (line .entry)) ⌝ }
 {
     let first = skip_blanks(line, 0);
