@@ -17,9 +17,12 @@ use authinfo::ask::client_publish;
 use authinfo::ask::client_subscribe;
 use json::Copied;
 use json::Found;
+use json::Kind;
 use json::Place;
 use json::Truth;
 use json::values::is_document;
+use json::values::skip_blanks;
+use reader::first_kind;
 use rule::Given;
 use rule::LINE;
 use rule::Refusal;
@@ -214,7 +217,11 @@ fn is_array(line: &[u8]) -> bool
     if !is_document(line) {
         return false;
     }
-    json::values::is_at(line, json::values::skip_blanks(line, 0), b'[')
+    let first = skip_blanks(line, 0);
+    match first_kind(&line[first..]) {
+        Kind::Array => true,
+        _ => false,
+    }
 }
 
 // What is said of the line, behind this first line and these rules.

@@ -1,12 +1,12 @@
 // Asks both stores the same questions.
 use crate::LENGTH;
-use crate::saying;
 use crate::saying::say;
 use crate::saying::say_number;
 use acl::Given;
 use acl::Protocol;
 use acl::PublishAnswer;
 use acl::SubscribeAnswer;
+use rule::refusal_number;
 
 // An id that is a byte too long.
 const LONG: [u8; 65] = [b'x'; 65];
@@ -50,7 +50,7 @@ fn of_publish(answer: PublishAnswer) -> Answer {
         PublishAnswer::Refuse(rule, flag) => refuse(rule, flag),
         PublishAnswer::Refused(cause) => Answer {
             case: b'e',
-            number: saying::number(cause),
+            number: refusal_number(cause) as u64,
             more: 0,
         },
     }
@@ -76,7 +76,7 @@ fn of_subscribe(answer: SubscribeAnswer) -> Answer {
         },
         SubscribeAnswer::Refused(cause) => Answer {
             case: b'e',
-            number: saying::number(cause),
+            number: refusal_number(cause) as u64,
             more: 0,
         },
     }
@@ -212,7 +212,7 @@ fn all_subscribes(a: &[u8; LENGTH], b: &[u8; LENGTH]) -> bool {
 }
 
 // All questions. Are all answers the same?
-pub fn ask_all(a: &[u8; LENGTH], b: &[u8; LENGTH]) -> bool {
+pub(crate) fn ask_all(a: &[u8; LENGTH], b: &[u8; LENGTH]) -> bool {
     let published = all_publishes(a, b);
     all_subscribes(a, b) & published
 }

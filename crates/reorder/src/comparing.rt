@@ -9,6 +9,8 @@ use store::CountsRead;
 use table::number_at;
 use table::present;
 use table::row_at;
+ghost use mathlib.Core.Path.{_≡_};
+ghost use Rattle.text.specs.Text as bytes;
 
 // Each table has room for so many rows.
 const ROWS: usize = 8;
@@ -22,7 +24,9 @@ struct Place {
 }
 
 // Are all bytes of the two stores equal?
-pub fn same(a: &[u8; LENGTH], b: &[u8; LENGTH]) -> bool {
+pub fn same(a: &[u8; LENGTH], b: &[u8; LENGTH]) -> bool
+    ensures { λ r. ⌜ r ≡ bytes.same (now (a .entry)) (now (b .entry)) ⌝ }
+{
     text::same(a, b)
 }
 
@@ -104,7 +108,7 @@ fn alike_by(a: &[u8; LENGTH], b: &[u8; LENGTH], counts: Counts) -> bool {
 }
 
 // Compares two stores of R 256 and F, E, N 8.
-pub fn alike(a: &[u8; LENGTH], b: &[u8; LENGTH]) -> bool {
+pub(crate) fn alike(a: &[u8; LENGTH], b: &[u8; LENGTH]) -> bool {
     let CountsRead::Counts(counts) = Counts::new(256, 8, 8, 8) else {
         say(b"no such counts\n");
         return false;

@@ -1,11 +1,13 @@
 // The list of events, and what happens when one is handed to a store.
 use crate::LENGTH;
-use crate::saying;
 use crate::saying::part;
 use crate::saying::say;
 use crate::saying::say_number;
 use acl::EventAnswer;
 use acl::Given;
+use rule::refusal_number;
+ghost use mathlib.Core.Path.{_≡_};
+ghost use Rattle.reorder.specs.Listing as spec;
 
 // A session; the client by the digit of its id, `x` for the id that is too long; and the initial of the user name, `-` for none.
 pub enum Event {
@@ -18,7 +20,9 @@ pub enum Event {
 const LONG: usize = 65;
 
 // The event of a number.
-pub fn listed(n: u8) -> Event {
+pub fn listed(n: u8) -> Event
+    ensures { λ r. ⌜ r ≡ spec.listed n ⌝ }
+{
     match n {
         1 => Event::Connected(1, b'1', b'a'),
         2 => Event::Connected(2, b'2', b'b'),
@@ -39,7 +43,9 @@ pub fn listed(n: u8) -> Event {
 }
 
 // The session of an event.
-pub fn session(e: Event) -> u64 {
+pub fn session(e: Event) -> u64
+    ensures { λ r. ⌜ r ≡ spec.session e ⌝ }
+{
     match e {
         Event::Connected(s, _, _) => s,
         Event::Disconnected(s, _) => s,
@@ -48,7 +54,9 @@ pub fn session(e: Event) -> u64 {
 }
 
 // The client of an event, 0 where it has none.
-pub fn client(e: Event) -> u8 {
+pub fn client(e: Event) -> u8
+    ensures { λ r. ⌜ r ≡ spec.client e ⌝ }
+{
     match e {
         Event::Connected(_, c, _) => c,
         Event::Disconnected(_, c) => c,
@@ -79,7 +87,7 @@ fn told(answer: EventAnswer) -> u64 {
             0
         }
         EventAnswer::Refused(cause) => {
-            let n = saying::number(cause);
+            let n = refusal_number(cause) as u64;
             say_number(b": error ", n);
             say(b"\n");
             n
@@ -122,7 +130,7 @@ fn ends(store: &mut [u8; LENGTH], s: u64) -> EventAnswer {
 }
 
 // Hands the event of a number to the store, and writes it with its answer: 0 done, else the number of the refusal.
-pub fn happen(store: &mut [u8; LENGTH], n: u8) -> u64 {
+pub(crate) fn happen(store: &mut [u8; LENGTH], n: u8) -> u64 {
     let mut buffer = [b'x'; LONG];
     let e = listed(n);
     let length = write_id(&mut buffer, client(e));

@@ -2,6 +2,10 @@
 use crate::LENGTH;
 use crate::listing;
 use crate::listing::listed;
+ghost use mathlib.Core.Path.{_≡_};
+ghost use lib.ListN.{drop};
+ghost use Rattle.reorder.specs.Listing as events;
+ghost use Rattle.reorder.specs.Running as spec;
 
 pub const EVENTS: usize = 15;
 
@@ -17,7 +21,7 @@ fn keep(answers: &mut [u64; ANSWERS], n: u8, answer: u64) {
 }
 
 // Hands the events to the store in this order, and keeps their answers.
-pub fn run(store: &mut [u8; LENGTH], order: &[u8; EVENTS], answers: &mut [u64; ANSWERS]) {
+pub(crate) fn run(store: &mut [u8; LENGTH], order: &[u8; EVENTS], answers: &mut [u64; ANSWERS]) {
     let mut i = 0;
     while i < EVENTS {
         let n = order[i];
@@ -27,11 +31,26 @@ pub fn run(store: &mut [u8; LENGTH], order: &[u8; EVENTS], answers: &mut [u64; A
     }
 }
 
-// Are the same events refused?
-pub fn same_refused(answers: &[u64; ANSWERS], others: &[u64; ANSWERS]) -> bool {
+// Is one of the two answers done, and the other a refusal?
+fn differ(a: u64, b: u64) -> bool
+    ensures { λ r. ⌜ r ≡ spec.differ a b ⌝ }
+{
+    if a == 0 {
+        return b != 0;
+    }
+    b == 0
+}
+
+// Is each event of the one list refused if it is in the other?
+fn alike(answers: &[u64], others: &[u64]) -> bool
+    ensures { λ r. ⌜ r ≡ spec.sameRefused (now (answers .entry)) (now (others .entry)) ⌝ }
+{
     let mut i = 0;
-    while i < ANSWERS {
-        if (answers[i] == 0) != (others[i] == 0) {
+    while i < answers.len() {
+        if others.len() <= i {
+            return true;
+        }
+        if differ(answers[i], others[i]) {
             return false;
         }
         i += 1;
@@ -39,8 +58,17 @@ pub fn same_refused(answers: &[u64; ANSWERS], others: &[u64; ANSWERS]) -> bool {
     true
 }
 
+// Are the same events refused?
+pub fn same_refused(answers: &[u64; ANSWERS], others: &[u64; ANSWERS]) -> bool
+    ensures { λ r. ⌜ r ≡ spec.sameRefused (now (answers .entry)) (now (others .entry)) ⌝ }
+{
+    alike(answers, others)
+}
+
 // Do the two events share a client id or a session number?
-fn share(m: u8, n: u8) -> bool {
+fn share(m: u8, n: u8) -> bool
+    ensures { λ r. ⌜ r ≡ spec.share (events.listed m) (events.listed n) ⌝ }
+{
     let one = listed(m);
     let other = listed(n);
     if listing::session(one) == listing::session(other) {
@@ -55,9 +83,11 @@ fn share(m: u8, n: u8) -> bool {
 
 // From this place on, is there neither `n` itself nor an event that is listed before it and shares a client id or a session number
 // with it?
-fn keeps_one(order: &[u8; EVENTS], at: usize, n: u8) -> bool {
+fn keeps_one(order: &[u8], at: usize, n: u8) -> bool
+    ensures { λ r. ⌜ r ≡ spec.keepsOne n (drop at (now (order .entry))) ⌝ }
+{
     let mut i = at;
-    while i < EVENTS {
+    while i < order.len() {
         let later = order[i];
         if later == n {
             return false;
@@ -73,7 +103,9 @@ fn keeps_one(order: &[u8; EVENTS], at: usize, n: u8) -> bool {
 }
 
 // The same, and is `n` the number of an event?
-fn fits(order: &[u8; EVENTS], at: usize, n: u8) -> bool {
+fn fits(order: &[u8], at: usize, n: u8) -> bool
+    ensures { λ r. ⌜ r ≡ spec.fits n (drop at (now (order .entry))) ⌝ }
+{
     if n == 0 {
         return false;
     }
@@ -84,9 +116,11 @@ fn fits(order: &[u8; EVENTS], at: usize, n: u8) -> bool {
 }
 
 // Is it an order of all events, each once, in which those that share a client id or a session number keep their order?
-pub fn keeps(order: &[u8; EVENTS]) -> bool {
+pub fn keeps(order: &[u8]) -> bool
+    ensures { λ r. ⌜ r ≡ spec.keeps (now (order .entry)) ⌝ }
+{
     let mut i = 0;
-    while i < EVENTS {
+    while i < order.len() {
         let n = order[i];
         i += 1;
         if !fits(order, i, n) {

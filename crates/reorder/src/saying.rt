@@ -1,20 +1,21 @@
-// Words and numbers on standard output, and the numbers of refusals.
-use acl::Refusal;
+// Words and numbers on standard output.
 use libc::STDOUT_FILENO;
+ghost use mathlib.Core.Path.{_≡_};
+ghost use Rattle.reorder.specs.Saying as spec;
 
 // Writes words as they are.
-pub fn say(words: &[u8]) {
+pub(crate) fn say(words: &[u8]) {
     io::write_all(STDOUT_FILENO, words);
 }
 
 // Writes words and, behind them, a number.
-pub fn say_number(words: &[u8], n: u64) {
+pub(crate) fn say_number(words: &[u8], n: u64) {
     say(words);
     io::print_decimal(STDOUT_FILENO, n);
 }
 
 // Writes a line: what is claimed, and whether it is so.
-pub fn whether(so: bool, claim: &[u8]) {
+pub(crate) fn whether(so: bool, claim: &[u8]) {
     say(claim);
     if so {
         say(b": yes\n");
@@ -24,7 +25,9 @@ pub fn whether(so: bool, claim: &[u8]) {
 }
 
 // The stretch of the bytes from `from` to before `to`; an empty one where they don't have it.
-pub fn part(bytes: &[u8], from: usize, to: usize) -> &[u8] {
+pub fn part(bytes: &[u8], from: usize, to: usize) -> &[u8]
+    ensures { λ r. ⌜ now r ≡ spec.part (now (bytes .entry)) from to ⌝ }
+{
     if to < from {
         return &bytes[0..0];
     }
@@ -32,20 +35,4 @@ pub fn part(bytes: &[u8], from: usize, to: usize) -> &[u8] {
         return &bytes[0..0];
     }
     &bytes[from..to]
-}
-
-// The number of document 01 for a refusal.
-pub fn number(cause: Refusal) -> u64 {
-    match cause {
-        Refusal::TooLong => 1,
-        Refusal::OutOfRange => 2,
-        Refusal::Malformed => 3,
-        Refusal::Counts => 4,
-        Refusal::NotJson => 5,
-        Refusal::NotARule => 6,
-        Refusal::FilledTooLong => 7,
-        Refusal::FiltersFull => 8,
-        Refusal::EqsFull => 9,
-        Refusal::NotesFull => 10,
-    }
 }

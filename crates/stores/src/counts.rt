@@ -78,7 +78,7 @@ fn least_counts(buffer: &mut [u8; LONGER]) {
 }
 
 // The least counts. The bytes before the first open are no store.
-pub fn least() {
+pub(crate) fn least() {
     let mut buffer = [255; LONGER];
     say(b"The least counts\n");
     least_texts(&mut buffer);
@@ -86,7 +86,7 @@ pub fn least() {
 }
 
 // The greatest counts. The bytes before the first open are no store.
-pub fn greatest() {
+pub(crate) fn greatest() {
     let mut buffer = [255; BUFFER];
     say(b"The greatest counts\n");
     large(&mut buffer, 3498000, 32768, 4096, 4096, 4096, b"");

@@ -276,7 +276,7 @@ fn damages(s: &mut [u8; LENGTH]) {
 }
 
 // Makes the store, and changes it.
-pub fn damage() {
+pub(crate) fn damage() {
     let mut store = [255; LENGTH];
     open(&mut store, 64, 3, 3, 3, &RULES);
     fill(&mut store);

@@ -1,38 +1,31 @@
 // What is written of an open: the question, the answer, and the state of the store then.
 use libc::STDOUT_FILENO;
-use rule::Refusal;
+use rule::refusal_number;
 use store::Opened;
 use store::check::check;
 use store::opening::open;
+ghost use mathlib.Core.Path.{_≡_};
+ghost use lib.ListN.{take};
 
 // Writes words as they are.
-pub fn say(words: &[u8]) {
+pub(crate) fn say(words: &[u8]) {
     io::write_all(STDOUT_FILENO, words);
 }
 
 // Writes words and, behind them, a number.
-pub fn say_number(words: &[u8], n: u64) {
+pub(crate) fn say_number(words: &[u8], n: u64) {
     say(words);
     io::print_decimal(STDOUT_FILENO, n);
 }
 
 // The first `n` bytes; all, where there are fewer.
-pub fn front(bytes: &[u8], n: usize) -> &[u8] {
+pub fn front(bytes: &[u8], n: usize) -> &[u8]
+    ensures { λ r. ⌜ now r ≡ take n (now (bytes .entry)) ⌝ }
+{
     if bytes.len() < n {
         return bytes;
     }
     &bytes[0..n]
-}
-
-// The number of document 01 for a refusal of open.
-fn number(cause: Refusal) -> u64 {
-    match cause {
-        Refusal::TooLong => 1,
-        Refusal::Counts => 4,
-        Refusal::NotJson => 5,
-        Refusal::NotARule => 6,
-        _ => 0,
-    }
 }
 
 // Opens the lent bytes, and writes the counts, the two lengths and the answer.
@@ -48,7 +41,7 @@ fn answer(lent: &mut [u8], r: u64, f: u64, e: u64, n: u64, text: &[u8]) {
             say(b": done");
         }
         Opened::Refused(cause, line) => {
-            say_number(b": error ", number(cause));
+            say_number(b": error ", refusal_number(cause) as u64);
             say_number(b" line ", line as u64);
         }
     }
@@ -70,7 +63,7 @@ fn say_state(buffer: &[u8], kept: &[u8], whole: usize) {
 
 // Lends the first `lent` bytes of a buffer to an open. The first `whole` of it are the store whose state is written then; `kept` has
 // room for the bytes that have to be as before.
-pub fn attempt(
+pub(crate) fn attempt(
     buffer: &mut [u8],
     kept: &mut [u8],
     whole: usize,

@@ -1,6 +1,8 @@
 // How many cases there were, and how many came out as they have to.
 use crate::saying::say;
 use crate::saying::say_number;
+ghost use mathlib.Core.Path.{_≡_};
+ghost use Rattle.stores.specs.Tally as spec;
 
 pub struct Tally {
     pub right: u64,
@@ -9,12 +11,16 @@ pub struct Tally {
 
 impl Tally {
     // Before the first case.
-    pub fn none() -> Tally {
+    pub fn none() -> Tally
+        ensures { λ r. ⌜ r ≡ spec.noCase ⌝ }
+    {
         Tally { right: 0, all: 0 }
     }
 
     // The tally with one more case.
-    pub fn count(self, right: bool) -> Tally {
+    pub fn count(self, right: bool) -> Tally
+        ensures { λ r. ⌜ r ≡ spec.counted self right ⌝ }
+    {
         let all = std::num::wrapping_add_u64(self.all, 1);
         if right {
             return Tally {
@@ -29,7 +35,7 @@ impl Tally {
     }
 
     // Writes the tally, as `40 of 40` and what came out so.
-    pub fn print(self, words: &[u8]) {
+    pub(crate) fn print(self, words: &[u8]) {
         say_number(b"", self.right);
         say_number(b" of ", self.all);
         say(words);

@@ -2,6 +2,8 @@
 use crate::saying::attempt;
 use crate::saying::front;
 use crate::saying::say;
+ghost use mathlib.Core.Path.{_≡_};
+ghost use Rattle.stores.specs.Texts as spec;
 
 // The store: R 4,096 and a row of each table.
 const LENGTH: usize = 4958;
@@ -10,7 +12,9 @@ const LENGTH: usize = 4958;
 const FIRST: [u8; 15] = *b"[\"deny\",\"all\"]\n";
 
 // Fills the text with a line, over and over.
-pub fn repeat(text: &mut [u8], line: &[u8]) {
+pub fn repeat(text: &mut [u8], line: &[u8])
+    ensures { λ r. ⌜ now (text .exit) ≡ spec.repeated (now (text .entry)) (now (line .entry)) ⌝ }
+{
     let n = line.len();
     if n == 0 {
         return;
@@ -151,7 +155,7 @@ fn no_rules(store: &mut [u8; LENGTH]) {
 }
 
 // All of them. The first open makes a store of bytes that are none; the later ones find one.
-pub fn texts() {
+pub(crate) fn texts() {
     let mut store = [255; LENGTH];
     many_lines(&mut store);
     long_lines(&mut store);

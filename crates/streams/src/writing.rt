@@ -7,6 +7,7 @@ use lines::Said;
 use lines::output::put_line;
 ghost use mathlib.Core.Path.{_≡_};
 ghost use lib.ListN.{take};
+ghost use Rattle.streams.specs.Writing as spec;
 
 // The first n bytes of the buffer, or all of it.
 pub fn front(buffer: &[u8], n: usize) -> &[u8]
@@ -19,7 +20,7 @@ pub fn front(buffer: &[u8], n: usize) -> &[u8]
 }
 
 // Writes out what waits.
-pub fn flush(output: i32, out: &[u8], waiting: usize) {
+fn flush(output: i32, out: &[u8], waiting: usize) {
     io::write_all(output, front(out, waiting));
 }
 
@@ -36,7 +37,9 @@ pub(crate) fn put(output: i32, out: &mut [u8], waiting: usize, number: u64, said
 }
 
 // No line has begun.
-pub fn no_line() -> Begun {
+pub fn no_line() -> Begun
+    ensures { λ r. ⌜ r ≡ spec.noLine ⌝ }
+{
     Begun {
         length: 0,
         long: false,
@@ -44,7 +47,9 @@ pub fn no_line() -> Begun {
 }
 
 // Before the first byte; with or without a first line to come.
-pub fn start(headed: bool) -> Run {
+pub fn start(headed: bool) -> Run
+    ensures { λ r. ⌜ r ≡ spec.started headed ⌝ }
+{
     Run {
         headed,
         header: 0,
@@ -70,7 +75,7 @@ pub(crate) fn say(mut run: Run, output: i32, out: &mut [u8], said: Said) -> Run 
 }
 
 // Writes out what waits.
-pub fn written(mut run: Run, output: i32, out: &[u8]) -> Run {
+pub(crate) fn written(mut run: Run, output: i32, out: &[u8]) -> Run {
     flush(output, out, run.waiting);
     run.waiting = 0;
     run

@@ -1,7 +1,7 @@
 -- How many lines of each kind there were, and how many of them agree.
 use Prim.Native.Nat.{ℕ, _+_, _%_, _^_}
 use mathlib.Core.List.{List}
-use lib.ListN.{getD, set}
+use lib.ListN.{getD, set, replicate}
 use Rattle.vectors.specs.declared.judging.Kind.{Kind}
 use Rattle.vectors.specs.declared.judging.Kind.the-variants.{Valid, Tree, Plain, Document, Within, RuleLine, Identity, OnStore, Client}
 use Rattle.vectors.specs.declared.judging.Judged.{Judged}
@@ -22,6 +22,10 @@ place RuleLine = 5
 place Identity = 6
 place OnStore = 7
 place Client = 8
+
+-- before the first line: none of any kind
+abbrev pub noTallies : Tallies
+noTallies = record { agreed = replicate kinds 0; asked = replicate kinds 0 }
 
 -- one more of this kind, in 64 bits
 unfoldable pub oneMore : List ℕ → Kind → List ℕ

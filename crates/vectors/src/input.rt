@@ -160,7 +160,7 @@ fn finish(run: Run, buffer: &[u8])
 //
 // A proved loop has to end, and nothing says that the input does. So the loop counts its turns down, from a number that no run
 // uses up.
-pub fn replay() {
+pub(crate) fn replay() {
     let mut buffer = io::buffer();
     let mut run = Run {
         length: 0,

@@ -55,7 +55,9 @@ fn print_one(letter: u8, agreed: u64, asked: u64) {
 
 impl Tallies {
     // Before the first line.
-    pub fn none() -> Tallies {
+    pub fn none() -> Tallies
+        ensures { λ r. ⌜ r ≡ spec.noTallies ⌝ }
+    {
         Tallies {
             agreed: [0; KINDS],
             asked: [0; KINDS],
@@ -83,7 +85,7 @@ impl Tallies {
     }
 
     // Writes the tallies, a line a kind.
-    pub fn print(self) {
+    pub(crate) fn print(self) {
         let agreed = self.agreed;
         let asked = self.asked;
         for i in 0..KINDS {

@@ -1,0 +1,3 @@
+pub mod Saying
+pub mod Listing
+pub mod Running

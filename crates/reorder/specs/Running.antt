@@ -1,0 +1,35 @@
+-- What two runs of the events have in common, and which orders demand 3 means.
+use Prim.Native.Nat.{ℕ}
+use mathlib.Core.Bool.{Bool, true, false, _&&_, _||_, not, cond}
+use mathlib.Core.List.{List, [], _∷_}
+use lib.Dec.{eqb, leb, ltb}
+use Rattle.reorder.specs.declared.listing.Event.{Event}
+use Rattle.reorder.specs.Listing.{listed, session, client}
+
+-- is one of the two answers done, 0, and the other a refusal?
+unfoldable pub differ : ℕ → ℕ → Bool
+differ a b = cond (eqb a 0) (not (eqb b 0)) (eqb b 0)
+
+-- is each event done in the one run if it is in the other?
+unfoldable pub sameRefused : List ℕ → List ℕ → Bool
+sameRefused [] others = true
+sameRefused (a ∷ answers) [] = true
+sameRefused (a ∷ answers) (b ∷ others) = not (differ a b) && sameRefused answers others
+
+-- do two events share a client id or a session number?
+unfoldable pub share : Event → Event → Bool
+share d e = eqb (session d) (session e) || (not (eqb (client d) 0) && eqb (client d) (client e))
+
+-- is there neither `n` itself nor an event that is listed before it and shares a client id or a session number with it?
+unfoldable pub keepsOne : ℕ → List ℕ → Bool
+keepsOne n [] = true
+keepsOne n (later ∷ order) = not (eqb later n) && (not (ltb later n && share (listed n) (listed later)) && keepsOne n order)
+
+-- the same of those behind `n`, and is `n` the number of an event?
+unfoldable pub fits : ℕ → List ℕ → Bool
+fits n order = not (eqb n 0) && (leb n 15 && keepsOne n order)
+
+-- is it an order of events, each once, in which those that share a client id or a session number keep their order?
+unfoldable pub keeps : List ℕ → Bool
+keeps [] = true
+keeps (n ∷ order) = fits n order && keeps order
