@@ -23,6 +23,7 @@ use table::Pushed;
 use table::push;
 use table::put_number;
 use table::restore;
+use text::front;
 use topic::valid_filter;
 ghost use mathlib.Core.Path.{_≡_};
 ghost use mathlib.Core.Bool.{false};
@@ -41,16 +42,6 @@ ghost use Rattle.store.specs.declared.ShapeRead.«the-variants».{LaidOut};
 ghost use Rattle.events.specs.Event as event;
 ghost use Rattle.events.specs.Templates as templates;
 ghost use Rattle.events.specs.Pushes as spec;
-
-// The first `n` bytes of a text.
-fn front(text: &[u8], n: usize) -> &[u8]
-    ensures { λ r. ⌜ now r ≡ take n (now (text .entry)) ⌝ }
-{
-    if n < text.len() {
-        return &text[..n];
-    }
-    text
-}
 
 // Pushes a filled filter, if it is valid, as a filter row owned by the client.
 fn push_filter(part: &mut [u8], used: usize, rule: u16, text: &[u8], id: &[u8]) -> Pushed

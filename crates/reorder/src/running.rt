@@ -115,7 +115,7 @@ fn fits(order: &[u8], at: usize, n: u8) -> bool
     keeps_one(order, at, n)
 }
 
-// Is it an order of all events, each once, in which those that share a client id or a session number keep their order?
+// Is it an order of events, each once, in which those that share a client id or a session number keep their order?
 pub fn keeps(order: &[u8]) -> bool
     ensures { λ r. ⌜ r ≡ spec.keeps (now (order .entry)) ⌝ }
 {

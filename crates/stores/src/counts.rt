@@ -1,9 +1,9 @@
 // Opens at the least and the greatest counts, one past each, and with a store a byte too short or too long (document 01: "4 count out
 // of range or store length unequal to the formula").
 use crate::saying::attempt;
-use crate::saying::front;
 use crate::saying::say;
 use crate::texts::repeat;
+use text::front;
 
 // 16 + R + 326F + 260E + 260N at the least and at the greatest counts.
 const LEAST: usize = 863;

@@ -1,6 +1,5 @@
 // Damages one byte of each kind of a store with rows and sees that it is no longer as laid out (document 01, 3: "counts, padding, lengths,
 // rule text, row rule numbers, note sessions over 255, filter validity, equal rows"), and as laid out again with the byte put back.
-use crate::saying::front;
 use crate::saying::say;
 use crate::tally::Tally;
 use store::check::check;
@@ -9,6 +8,7 @@ use store::rows::put_filter;
 use store::rows::put_numbered;
 use table::push;
 use table::put_number;
+use text::front;
 
 // R 64; F, E, N 3. The rule text is at 16, the filter rows at 80, 406, 732, the eq rows at 1058, 1318, 1578, the note rows at 1838,
 // 2098, 2358.

@@ -4,8 +4,7 @@ use rule::refusal_number;
 use store::Opened;
 use store::check::check;
 use store::opening::open;
-ghost use mathlib.Core.Path.{_≡_};
-ghost use lib.ListN.{take};
+use text::front;
 
 // Writes words as they are.
 pub(crate) fn say(words: &[u8]) {
@@ -16,16 +15,6 @@ pub(crate) fn say(words: &[u8]) {
 pub(crate) fn say_number(words: &[u8], n: u64) {
     say(words);
     io::print_decimal(STDOUT_FILENO, n);
-}
-
-// The first `n` bytes; all, where there are fewer.
-pub fn front(bytes: &[u8], n: usize) -> &[u8]
-    ensures { λ r. ⌜ now r ≡ take n (now (bytes .entry)) ⌝ }
-{
-    if bytes.len() < n {
-        return bytes;
-    }
-    &bytes[0..n]
 }
 
 // Opens the lent bytes, and writes the counts, the two lengths and the answer.

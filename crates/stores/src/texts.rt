@@ -1,7 +1,7 @@
 // Opens with texts that are refused, and with the longest that are not (document 01, Refusals by operation, Open).
 use crate::saying::attempt;
-use crate::saying::front;
 use crate::saying::say;
+use text::front;
 ghost use mathlib.Core.Path.{_≡_};
 ghost use Rattle.stores.specs.Texts as spec;
 

@@ -1,6 +1,5 @@
 // The program `client`: a first line, rule lines, an empty line, question lines (docs/DECISIONS.md).
 use crate::Run;
-use crate::writing::front;
 use crate::writing::no_line;
 use crate::writing::say;
 use crate::writing::start;
@@ -15,6 +14,7 @@ use lines::input::take_byte;
 use lines::input::take_rule_byte;
 use lines::output::refused_at;
 use rule::Refusal;
+use text::front;
 ghost use Prim.Native.Nat.{_≤_};
 ghost use lib.ListN.{length};
 

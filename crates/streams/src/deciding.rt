@@ -1,6 +1,5 @@
 // The program `decide`: rule lines, an empty line, event lines (document 01, Marked examples).
 use crate::Run;
-use crate::writing::front;
 use crate::writing::put;
 use crate::writing::say;
 use crate::writing::start;
@@ -16,6 +15,7 @@ use lines::output::refused_at;
 use rule::Refusal;
 use store::Opened;
 use store::opening::open;
+use text::front;
 ghost use Prim.Native.Nat.{_≤_};
 ghost use lib.ListN.{length};
 

@@ -5,19 +5,9 @@ use lines::Put;
 use lines::Rules;
 use lines::Said;
 use lines::output::put_line;
+use text::front;
 ghost use mathlib.Core.Path.{_≡_};
-ghost use lib.ListN.{take};
 ghost use Rattle.streams.specs.Writing as spec;
-
-// The first n bytes of the buffer, or all of it.
-pub fn front(buffer: &[u8], n: usize) -> &[u8]
-    ensures { λ r. ⌜ now r ≡ take n (now (buffer .entry)) ⌝ }
-{
-    if n < buffer.len() {
-        return &buffer[..n];
-    }
-    buffer
-}
 
 // Writes out what waits.
 fn flush(output: i32, out: &[u8], waiting: usize) {

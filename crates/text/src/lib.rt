@@ -11,6 +11,16 @@ pub enum Replaced {
     TooLong,
 }
 
+// The first `n` bytes of the text; all, where there are fewer.
+pub fn front(text: &[u8], n: usize) -> &[u8]
+    ensures { λ r. ⌜ now r ≡ take n (now (text .entry)) ⌝ }
+{
+    if n < text.len() {
+        return &text[..n];
+    }
+    text
+}
+
 // Are the two texts equal?
 pub fn same(a: &[u8], b: &[u8]) -> bool
     ensures { λ r. ⌜ r ≡ spec.same (now (a .entry)) (now (b .entry)) ⌝ }

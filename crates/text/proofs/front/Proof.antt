@@ -1,11 +1,11 @@
--- `events::connecting::front` meets its contract. Assumes nothing.
+-- A number past the end of the text means all of it. Assumes nothing.
 use mathlib.Core.Path.{sym}
 use native.Mathlib.Omega.{arith}
 use borrow.Author.Needs.{needs}
 use denote.Ref.{now}
 use lib.Seq.{length-take-le, take-all}
-use Rattle.events.proofs.connecting.front.Statement.{statement}
-use Rattle.events.proofs.connecting.front.Tie as tie
+use Rattle.text.proofs.front.Statement.{statement}
+use Rattle.text.proofs.front.Tie as tie
 
 slice-aggregate-result : tie.Need-slice-aggregate-result
 slice-aggregate-result c = let a = c .before .before .args in sym (length-take-le (a .n) (now (a .text)) (omega arith))
