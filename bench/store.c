@@ -1,7 +1,7 @@
 /* Times the check behind number 3 and the questions on a store, beside a plain scan of its bytes and the reading of its rules, in one
    run. store WHAT REPEATS: one row alone, for a profiler. store EVENT ROWS REPEATS: an event on a store whose F and N are ROWS, all
    used, each time on a copy of it; alike and twice are the check where all rows are alike but for their last bytes, and where two are
-   equal. Linked with target/staticlib/libffi.a. */
+   equal. Linked with target/staticlib/libmqtt_acl.a. */
 #include <stdbool.h>
 #include <stdint.h>
 #include <stdio.h>
@@ -10,14 +10,14 @@
 #include <time.h>
 
 typedef const uint8_t *Text;
-uint32_t acl_open(uint8_t *, size_t, uint64_t, uint64_t, uint64_t, uint64_t, Text, size_t);
-uint32_t acl_connect(Text, size_t, uint64_t, Text, size_t, uint8_t, Text, size_t, uint8_t, Text, size_t, uint8_t, Text, size_t, uint8_t);
-uint32_t acl_publish(Text, size_t, uint64_t, Text, size_t, uint8_t, Text, size_t, uint8_t, Text, size_t, uint8_t, Text, size_t, uint8_t, uint8_t,
+uint32_t mqtt_acl_open(uint8_t *, size_t, uint64_t, uint64_t, uint64_t, uint64_t, Text, size_t);
+uint32_t mqtt_acl_connect(Text, size_t, uint64_t, Text, size_t, uint8_t, Text, size_t, uint8_t, Text, size_t, uint8_t, Text, size_t, uint8_t);
+uint32_t mqtt_acl_publish(Text, size_t, uint64_t, Text, size_t, uint8_t, Text, size_t, uint8_t, Text, size_t, uint8_t, Text, size_t, uint8_t, uint8_t,
                      Text, size_t, uint8_t);
-uint8_t acl_rule_refusal(Text, size_t);
-uint8_t acl_connected(uint8_t *, size_t, uint64_t, Text, size_t, uint8_t, Text, size_t);
-uint8_t acl_disconnected(uint8_t *, size_t, uint64_t, Text, size_t);
-uint8_t acl_ended(uint8_t *, size_t, uint64_t);
+uint8_t mqtt_acl_rule_refusal(Text, size_t);
+uint8_t mqtt_acl_connected(uint8_t *, size_t, uint64_t, Text, size_t, uint8_t, Text, size_t);
+uint8_t mqtt_acl_disconnected(uint8_t *, size_t, uint64_t, Text, size_t);
+uint8_t mqtt_acl_ended(uint8_t *, size_t, uint64_t);
 
 static volatile uint32_t sink;
 static uint8_t *store;
@@ -45,7 +45,7 @@ static void make(unsigned R, unsigned F, unsigned E, unsigned N, unsigned count,
     length = 16 + R + 326ul * F + 260ul * E + 260ul * N;
     store = calloc(length, 1);
     write_rules(count);
-    if (acl_open(store, length, R, F, E, N, (Text)rules, strlen(rules)) != 0) exit(1);
+    if (mqtt_acl_open(store, length, R, F, E, N, (Text)rules, strlen(rules)) != 0) exit(1);
     unsigned used[3] = {F * share / 100, E * share / 100, N * share / 100};
     uint8_t *row = store + 16 + R;
     for (unsigned i = 0; i < used[0]; i++, row += 326) {
@@ -80,7 +80,7 @@ static void make_alike(size_t at, unsigned size, unsigned used, bool twice) {
 
 /* A question of client g1; a kept code is answered once the store is checked. */
 static uint32_t asks(const char *name, unsigned earlier) {
-    return acl_publish(store, length, earlier, (Text) "g1", 2, 1, (Text)name, strlen(name), 0, (Text) "", 0, 0, (Text) "", 0, 1, 4,
+    return mqtt_acl_publish(store, length, earlier, (Text) "g1", 2, 1, (Text)name, strlen(name), 0, (Text) "", 0, 0, (Text) "", 0, 1, 4,
                        (Text) "bench/g1/set1", 13, 1);
 }
 
@@ -91,7 +91,7 @@ static uint32_t once(const char *what) {
     if (!strcmp(what, "scan"))
         for (size_t i = 0; i < length; i++) any |= store[i];
     if (!strcmp(what, "read"))
-        for (char *line = rules, *end; (end = strchr(line, '\n')); line = end + 1) sum += acl_rule_refusal((Text)line, end - line);
+        for (char *line = rules, *end; (end = strchr(line, '\n')); line = end + 1) sum += mqtt_acl_rule_refusal((Text)line, end - line);
     if (!strcmp(what, "check")) sum = asks("u1", 2);
     if (!strcmp(what, "second")) sum = asks("u1", 0);
     if (!strcmp(what, "none")) sum = asks("nobody", 0);
@@ -141,7 +141,7 @@ static void make_full(unsigned rows, unsigned free_clients) {
     unsigned used = rows - 2 * free_clients;
     length = 16 + 2048 + 326ul * rows + 260ul * 32 + 260ul * rows;
     store = calloc(length, 1);
-    if (acl_open(store, length, 2048, rows, 32, rows, (Text)text, strlen(text)) != 0) exit(1);
+    if (mqtt_acl_open(store, length, 2048, rows, 32, rows, (Text)text, strlen(text)) != 0) exit(1);
     uint8_t *row = store + 16 + 2048;
     for (unsigned i = 0; i < used; i++, row += 326) {
         number(row + 2, sprintf((char *)row + 6, "bench/g%u/%s", i / 2, ends[i % 2]));
@@ -166,13 +166,13 @@ static void event(const char *what, unsigned rows) {
     sprintf(id, "g%u", n);
     sprintf(name, "n%u", n % 32);
     if (!strcmp(what, "present") || !strcmp(what, "new"))
-        if (acl_connected(store, length, n % 256, (Text)id, strlen(id), 1, (Text)name, strlen(name)) != 0) exit(1);
+        if (mqtt_acl_connected(store, length, n % 256, (Text)id, strlen(id), 1, (Text)name, strlen(name)) != 0) exit(1);
     if (!strcmp(what, "full"))
-        if (acl_connected(store, length, n % 256, (Text)id, strlen(id), 1, (Text)name, strlen(name)) != 8) exit(1);
+        if (mqtt_acl_connected(store, length, n % 256, (Text)id, strlen(id), 1, (Text)name, strlen(name)) != 8) exit(1);
     if (!strcmp(what, "first") || !strcmp(what, "last"))
-        if (acl_disconnected(store, length, n % 256, (Text)id, strlen(id)) != 0 || store[10] + 256 * store[11] != rows - 2) exit(1);
+        if (mqtt_acl_disconnected(store, length, n % 256, (Text)id, strlen(id)) != 0 || store[10] + 256 * store[11] != rows - 2) exit(1);
     if (!strcmp(what, "ended"))
-        if (acl_ended(store, length, n % 256) != 0 || store[14] + 256 * store[15] == rows) exit(1);
+        if (mqtt_acl_ended(store, length, n % 256) != 0 || store[14] + 256 * store[15] == rows) exit(1);
     if (!strcmp(what, "check") || !strcmp(what, "alike"))
         if (asks("n0", 2) != 16 * 2 + 1) exit(1);
     if (!strcmp(what, "twice"))

@@ -1,10 +1,10 @@
-/* Tests of acl.h. What is read from an answer's number, on every number that an answer can be and up to the largest; each call with NULL and
+/* Tests of mqtt_acl.h. What is read from an answer's number, on every number that an answer can be and up to the largest; each call with NULL and
    length 0 for each address, each flag at every value, each text at its longest and one past it, each number that can be
    refused up to the largest; each inline call, with texts that tell its parameters apart. Built and run by include/check. */
 #include <stdio.h>
 #include <stdlib.h>
 
-#include "acl.h"
+#include "mqtt_acl.h"
 
 #define CHECK(x) \
     do { \
@@ -20,15 +20,15 @@ static unsigned long checks;
 /* The parts of a number that is what is answered, and what it carries. */
 static void parts(unsigned what, uint64_t carried) {
     uint64_t answer = 16 * carried + what;
-    CHECK(acl_answer_what(answer) == what);
-    CHECK(acl_answer_allows(answer) == (what >= 2 && what <= 7));
-    CHECK(acl_answer_rule(answer) == (what >= 2 && what <= 11 ? carried : 0));
-    CHECK(acl_answer_code(answer) == (what == ACL_KEPT ? carried : 0));
-    CHECK(acl_answer_qos(answer) == (what == 5 ? 1 : what == 6 ? 2 : 0));
-    CHECK(acl_answer_superuser(answer) == (what == 3));
-    CHECK(acl_answer_disconnect(answer) == (what == 10));
-    CHECK(acl_answer_refusal(answer) == (what == ACL_REFUSED ? carried % 256 : 0));
-    CHECK(acl_answer_line(answer) == (what == ACL_REFUSED ? carried / 256 : 0));
+    CHECK(mqtt_acl_answer_what(answer) == what);
+    CHECK(mqtt_acl_answer_allows(answer) == (what >= 2 && what <= 7));
+    CHECK(mqtt_acl_answer_rule(answer) == (what >= 2 && what <= 11 ? carried : 0));
+    CHECK(mqtt_acl_answer_code(answer) == (what == MQTT_ACL_KEPT ? carried : 0));
+    CHECK(mqtt_acl_answer_qos(answer) == (what == 5 ? 1 : what == 6 ? 2 : 0));
+    CHECK(mqtt_acl_answer_superuser(answer) == (what == 3));
+    CHECK(mqtt_acl_answer_disconnect(answer) == (what == 10));
+    CHECK(mqtt_acl_answer_refusal(answer) == (what == MQTT_ACL_REFUSED ? carried % 256 : 0));
+    CHECK(mqtt_acl_answer_line(answer) == (what == MQTT_ACL_REFUSED ? carried / 256 : 0));
 }
 
 static void unpacks(void) {
@@ -38,145 +38,145 @@ static void unpacks(void) {
     }
     for (unsigned number = 1; number <= 10; number++)
         for (unsigned line = 0; line <= 257; line++) {
-            parts(ACL_REFUSED, number + 256 * (uint64_t)line);
-            CHECK(acl_open_refusal(number + 256 * line) == number && acl_open_line(number + 256 * line) == line);
+            parts(MQTT_ACL_REFUSED, number + 256 * (uint64_t)line);
+            CHECK(mqtt_acl_open_refusal(number + 256 * line) == number && mqtt_acl_open_line(number + 256 * line) == line);
         }
-    CHECK(acl_open_refusal(0) == 0 && acl_open_line(0) == 0);
-    CHECK(acl_open_refusal(UINT32_MAX) == 255 && acl_open_line(UINT32_MAX) == UINT32_MAX / 256);
+    CHECK(mqtt_acl_open_refusal(0) == 0 && mqtt_acl_open_line(0) == 0);
+    CHECK(mqtt_acl_open_refusal(UINT32_MAX) == 255 && mqtt_acl_open_line(UINT32_MAX) == UINT32_MAX / 256);
     static const char *const words[] = {"error", "kept", "allow", "super", "allow", "allow", "allow", "allow",
                                         "refuse", "refuse", "drop", "refuse", "none", "valid", "expired"};
-    for (unsigned what = 0; what < 15; what++) CHECK(strcmp(acl_answer_word(16 * 256 + what), words[what]) == 0);
+    for (unsigned what = 0; what < 15; what++) CHECK(strcmp(mqtt_acl_answer_word(16 * 256 + what), words[what]) == 0);
 }
 
 static void counts(void) {
-    const acl_counts good[] = {{2048, 64, 32, 64}, {1, 1, 1, 1}, {32768, 4096, 4096, 4096}};
-    CHECK(acl_store_length(good[0]) == 47888);
+    const mqtt_acl_counts good[] = {{2048, 64, 32, 64}, {1, 1, 1, 1}, {32768, 4096, 4096, 4096}};
+    CHECK(mqtt_acl_store_length(good[0]) == 47888);
     for (int i = 0; i < 3; i++) {
-        size_t length = acl_store_length(good[i]);
+        size_t length = mqtt_acl_store_length(good[i]);
         uint8_t *store = (uint8_t *)malloc(length);
-        CHECK(store != NULL && acl_tell_open(store, length, good[i], acl_absent()) == 0);
-        CHECK(acl_tell_open(store, length - 1, good[i], acl_absent()) == ACL_COUNTS);
+        CHECK(store != NULL && mqtt_acl_tell_open(store, length, good[i], mqtt_acl_absent()) == 0);
+        CHECK(mqtt_acl_tell_open(store, length - 1, good[i], mqtt_acl_absent()) == MQTT_ACL_COUNTS);
         free(store);
     }
     const uint64_t over[] = {0, 32769, UINT64_MAX};
     for (int i = 0; i < 12; i++) {
         uint64_t n[4] = {1, 1, 1, 1};
         n[i % 4] = over[i / 4];
-        acl_counts c = {n[0], n[1], n[2], n[3]};
-        CHECK(acl_store_length(c) == 0);
-        CHECK(acl_tell_open(NULL, SIZE_MAX, c, acl_absent()) == ACL_COUNTS);
+        mqtt_acl_counts c = {n[0], n[1], n[2], n[3]};
+        CHECK(mqtt_acl_store_length(c) == 0);
+        CHECK(mqtt_acl_tell_open(NULL, SIZE_MAX, c, mqtt_acl_absent()) == MQTT_ACL_COUNTS);
     }
     for (int i = 1; i < 4; i++) {
         uint64_t n[4] = {1, 1, 1, 1};
         n[i] = 4097;
-        acl_counts c = {n[0], n[1], n[2], n[3]};
-        CHECK(acl_store_length(c) == 0);
+        mqtt_acl_counts c = {n[0], n[1], n[2], n[3]};
+        CHECK(mqtt_acl_store_length(c) == 0);
     }
 }
 
 /* Of an inline call: NULL is an absent text, a text of no bytes where it isn't optional, and a store of no bytes. */
 static void nulls(void) {
-    const acl_text none = acl_absent();
-    const acl_client nobody = {{NULL, 9}, {NULL, 9}, {NULL, 9}, {NULL, 9}, 0, 0};
-    const acl_client empty = {{NULL, 0}, {"", 0}, {"", 0}, {"", 0}, 1, 0};
-    CHECK(!acl_given(none) && acl_given(acl_string("")) && !acl_given(acl_string(NULL)));
-    CHECK(acl_length(nobody.id) == 0 && acl_bytes(NULL, 9).length == 0);
-    CHECK(acl_ask_valid_filter(none) && acl_ask_tree_match(none, none) && acl_ask_plain_match(none, none));
-    CHECK(!acl_ask_document(none) && !acl_ask_document_within(none, SIZE_MAX) && acl_ask_rule_refusal(none) == ACL_NOT_JSON);
-    CHECK(acl_ask_identity(none, &nobody) == ACL_NO_RULE);
-    CHECK(acl_ask_identity(acl_string("[\"allow\",{\"user\":\"\"}]"), &nobody) == ACL_DIFFERS);
-    CHECK(acl_ask_identity(acl_string("[\"allow\",{\"user\":\"\",\"superuser\":true}]"), &empty) == ACL_AGREES_SUPERUSER);
-    CHECK(acl_tell_connected(NULL, 9, 0, none, none) == ACL_MALFORMED && acl_tell_disconnected(NULL, 9, 0, none) == ACL_MALFORMED);
-    CHECK(acl_tell_ended(NULL, 9, 0) == ACL_MALFORMED && acl_tell_ended(NULL, 9, 256) == ACL_OUT_OF_RANGE);
-    CHECK(acl_answer_refusal(acl_ask_connect(none, 0, &nobody)) == ACL_MALFORMED);
-    CHECK(acl_answer_refusal(acl_ask_subscribe(none, 0, &nobody, none, 0)) == ACL_MALFORMED);
-    CHECK(acl_answer_refusal(acl_ask_publish(none, 0, &nobody, none, 1)) == ACL_MALFORMED);
-    CHECK(acl_answer_what(acl_ask_client_subscribe(0, none, none, none, 0, none)) == ACL_NO_DECISION);
-    CHECK(acl_answer_what(acl_ask_client_publish(1, none, none, none, 0, 0, 0, none)) == ACL_PUBLISH_ALLOWED);
+    const mqtt_acl_text none = mqtt_acl_absent();
+    const mqtt_acl_client nobody = {{NULL, 9}, {NULL, 9}, {NULL, 9}, {NULL, 9}, 0, 0};
+    const mqtt_acl_client empty = {{NULL, 0}, {"", 0}, {"", 0}, {"", 0}, 1, 0};
+    CHECK(!mqtt_acl_given(none) && mqtt_acl_given(mqtt_acl_string("")) && !mqtt_acl_given(mqtt_acl_string(NULL)));
+    CHECK(mqtt_acl_length(nobody.id) == 0 && mqtt_acl_bytes(NULL, 9).length == 0);
+    CHECK(mqtt_acl_ask_valid_filter(none) && mqtt_acl_ask_tree_match(none, none) && mqtt_acl_ask_plain_match(none, none));
+    CHECK(!mqtt_acl_ask_document(none) && !mqtt_acl_ask_document_within(none, SIZE_MAX) && mqtt_acl_ask_rule_refusal(none) == MQTT_ACL_NOT_JSON);
+    CHECK(mqtt_acl_ask_identity(none, &nobody) == MQTT_ACL_NO_RULE);
+    CHECK(mqtt_acl_ask_identity(mqtt_acl_string("[\"allow\",{\"user\":\"\"}]"), &nobody) == MQTT_ACL_DIFFERS);
+    CHECK(mqtt_acl_ask_identity(mqtt_acl_string("[\"allow\",{\"user\":\"\",\"superuser\":true}]"), &empty) == MQTT_ACL_AGREES_SUPERUSER);
+    CHECK(mqtt_acl_tell_connected(NULL, 9, 0, none, none) == MQTT_ACL_MALFORMED && mqtt_acl_tell_disconnected(NULL, 9, 0, none) == MQTT_ACL_MALFORMED);
+    CHECK(mqtt_acl_tell_ended(NULL, 9, 0) == MQTT_ACL_MALFORMED && mqtt_acl_tell_ended(NULL, 9, 256) == MQTT_ACL_OUT_OF_RANGE);
+    CHECK(mqtt_acl_answer_refusal(mqtt_acl_ask_connect(none, 0, &nobody)) == MQTT_ACL_MALFORMED);
+    CHECK(mqtt_acl_answer_refusal(mqtt_acl_ask_subscribe(none, 0, &nobody, none, 0)) == MQTT_ACL_MALFORMED);
+    CHECK(mqtt_acl_answer_refusal(mqtt_acl_ask_publish(none, 0, &nobody, none, 1)) == MQTT_ACL_MALFORMED);
+    CHECK(mqtt_acl_answer_what(mqtt_acl_ask_client_subscribe(0, none, none, none, 0, none)) == MQTT_ACL_NO_DECISION);
+    CHECK(mqtt_acl_answer_what(mqtt_acl_ask_client_publish(1, none, none, none, 0, 0, 0, none)) == MQTT_ACL_PUBLISH_ALLOWED);
 }
 
 /* Each of the four that can agree with a rule, to its own place in each of the four calls that take a client. */
 static void places(void) {
     static uint8_t store[16 + 256 + 326 + 260 + 260];
-    const acl_counts counts = {256, 1, 1, 1};
-    const acl_text lent = acl_bytes(store, sizeof store), topic = acl_string("t");
+    const mqtt_acl_counts counts = {256, 1, 1, 1};
+    const mqtt_acl_text lent = mqtt_acl_bytes(store, sizeof store), topic = mqtt_acl_string("t");
     const char *const rules[] = {"[\"allow\",{\"clientid\":\"x\"}]", "[\"allow\",{\"user\":\"x\",\"password\":\"y\"}]",
                                  "[\"allow\",{\"ipaddr\":\"x\"}]", "[\"allow\",{\"protocol\":4}]"};
-    const acl_client clients[] = {{{"x", 1}, {NULL, 0}, {NULL, 0}, {NULL, 0}, 1, 3},
+    const mqtt_acl_client clients[] = {{{"x", 1}, {NULL, 0}, {NULL, 0}, {NULL, 0}, 1, 3},
                                   {{"-", 1}, {"x", 1}, {"y", 1}, {NULL, 0}, 1, 3},
                                   {{"-", 1}, {NULL, 0}, {NULL, 0}, {"x", 1}, 1, 3},
                                   {{"-", 1}, {NULL, 0}, {NULL, 0}, {NULL, 0}, 1, 4}};
     for (int r = 0; r < 4; r++) {
-        CHECK(acl_tell_open(store, sizeof store, counts, acl_string(rules[r])) == 0);
+        CHECK(mqtt_acl_tell_open(store, sizeof store, counts, mqtt_acl_string(rules[r])) == 0);
         for (int c = 0; c < 4; c++) {
             unsigned yes = r == c;
-            CHECK(acl_ask_identity(acl_string(rules[r]), &clients[c]) == yes);
-            CHECK(acl_ask_connect(lent, 0, &clients[c]) == (yes ? 16 + ACL_CONNECT_ALLOWED : ACL_NOT_AUTHORIZED));
-            CHECK(acl_ask_subscribe(lent, 0, &clients[c], topic, 2) == (yes ? 16 + ACL_SUBSCRIBE_QOS2 : ACL_UNSPECIFIED_ERROR));
-            CHECK(acl_ask_publish(lent, 0, &clients[c], topic, 1) == (yes ? 16 + ACL_PUBLISH_ALLOWED : ACL_PUBLISH_DROPPED));
+            CHECK(mqtt_acl_ask_identity(mqtt_acl_string(rules[r]), &clients[c]) == yes);
+            CHECK(mqtt_acl_ask_connect(lent, 0, &clients[c]) == (yes ? 16 + MQTT_ACL_CONNECT_ALLOWED : MQTT_ACL_NOT_AUTHORIZED));
+            CHECK(mqtt_acl_ask_subscribe(lent, 0, &clients[c], topic, 2) == (yes ? 16 + MQTT_ACL_SUBSCRIBE_QOS2 : MQTT_ACL_UNSPECIFIED_ERROR));
+            CHECK(mqtt_acl_ask_publish(lent, 0, &clients[c], topic, 1) == (yes ? 16 + MQTT_ACL_PUBLISH_ALLOWED : MQTT_ACL_PUBLISH_DROPPED));
         }
     }
-    CHECK(acl_ask_tree_match(acl_string("+"), acl_string("a")) && !acl_ask_tree_match(acl_string("a"), acl_string("+")));
-    CHECK(acl_ask_plain_match(acl_string("+"), acl_string("a")) && !acl_ask_plain_match(acl_string("a"), acl_string("+")));
-    CHECK(acl_ask_document_within(acl_string("\"ab\""), 2) && !acl_ask_document_within(acl_string("\"ab\""), 1));
-    CHECK(acl_ask_document(acl_string("[]")) && acl_ask_rule_refusal(acl_string("[]")) == ACL_NOT_A_RULE);
+    CHECK(mqtt_acl_ask_tree_match(mqtt_acl_string("+"), mqtt_acl_string("a")) && !mqtt_acl_ask_tree_match(mqtt_acl_string("a"), mqtt_acl_string("+")));
+    CHECK(mqtt_acl_ask_plain_match(mqtt_acl_string("+"), mqtt_acl_string("a")) && !mqtt_acl_ask_plain_match(mqtt_acl_string("a"), mqtt_acl_string("+")));
+    CHECK(mqtt_acl_ask_document_within(mqtt_acl_string("\"ab\""), 2) && !mqtt_acl_ask_document_within(mqtt_acl_string("\"ab\""), 1));
+    CHECK(mqtt_acl_ask_document(mqtt_acl_string("[]")) && mqtt_acl_ask_rule_refusal(mqtt_acl_string("[]")) == MQTT_ACL_NOT_A_RULE);
 }
 
 /* An absent text is not an empty one, an absent protocol not 0, whatever else is given. Connect always has a protocol. */
 static void absent(void) {
     static uint8_t store[16 + 256 + 326 + 260 + 260];
-    const acl_counts counts = {256, 1, 1, 1};
-    const acl_text lent = acl_bytes(store, sizeof store), topic = acl_string("t");
+    const mqtt_acl_counts counts = {256, 1, 1, 1};
+    const mqtt_acl_text lent = mqtt_acl_bytes(store, sizeof store), topic = mqtt_acl_string("t");
     const char *const rules[] = {"[\"allow\",{\"user\":\"\"}]", "[\"allow\",{\"user\":\"x\",\"password\":\"\"}]",
                                  "[\"allow\",{\"ipaddr\":\"\"}]", "[\"allow\",{\"protocol\":0}]"};
     for (int r = 0; r < 4; r++)
         for (unsigned given = 0; given < 2; given++) {
-            acl_client c = {{"-", 1}, {"x", 1}, {"y", 1}, {"z", 1}, 1, 3};
-            if (r == 0) c.name = given ? acl_string("") : acl_absent();
-            if (r == 1) c.password = given ? acl_string("") : acl_absent();
-            if (r == 2) c.address = given ? acl_string("") : acl_absent();
+            mqtt_acl_client c = {{"-", 1}, {"x", 1}, {"y", 1}, {"z", 1}, 1, 3};
+            if (r == 0) c.name = given ? mqtt_acl_string("") : mqtt_acl_absent();
+            if (r == 1) c.password = given ? mqtt_acl_string("") : mqtt_acl_absent();
+            if (r == 2) c.address = given ? mqtt_acl_string("") : mqtt_acl_absent();
             if (r == 3) {
                 c.has_protocol = (uint8_t)given;
                 c.protocol = 0;
             }
-            CHECK(acl_tell_open(store, sizeof store, counts, acl_string(rules[r])) == 0);
-            CHECK(acl_ask_identity(acl_string(rules[r]), &c) == given);
-            CHECK(acl_answer_allows(acl_ask_connect(lent, 0, &c)) == (given || r == 3));
-            CHECK(acl_answer_allows(acl_ask_subscribe(lent, 0, &c, topic, 0)) == given);
-            CHECK(acl_answer_allows(acl_ask_publish(lent, 0, &c, topic, 0)) == given);
+            CHECK(mqtt_acl_tell_open(store, sizeof store, counts, mqtt_acl_string(rules[r])) == 0);
+            CHECK(mqtt_acl_ask_identity(mqtt_acl_string(rules[r]), &c) == given);
+            CHECK(mqtt_acl_answer_allows(mqtt_acl_ask_connect(lent, 0, &c)) == (given || r == 3));
+            CHECK(mqtt_acl_answer_allows(mqtt_acl_ask_subscribe(lent, 0, &c, topic, 0)) == given);
+            CHECK(mqtt_acl_answer_allows(mqtt_acl_ask_publish(lent, 0, &c, topic, 0)) == given);
         }
 }
 
 /* Who, what and how, of the per-client calls; id and name of an event. */
 static void clients(void) {
-    const acl_text id = acl_string("i"), name = acl_string("n");
-    const acl_text rule = acl_string("{\"permission\":\"deny\",\"action\":\"all\",\"qos\":1,\"retain\":true,\"topic\":\"eq ${clientid}${username}\"}");
-    const acl_text topic = acl_string("in");
-    CHECK(acl_ask_client_subscribe(0, id, name, rule, 1, topic) == 16 + ACL_NOT_AUTHORIZED);
-    CHECK(acl_ask_client_subscribe(0, id, name, rule, 0, topic) == ACL_NO_DECISION);
-    CHECK(acl_ask_client_subscribe(1, id, name, rule, 1, topic) == ACL_SUBSCRIBE_QOS1);
-    CHECK(acl_ask_client_publish(0, id, name, rule, 1, 1, 0, topic) == 16 + ACL_PUBLISH_REFUSED);
-    CHECK(acl_ask_client_publish(0, id, name, rule, 1, 1, 1, topic) == 16 + ACL_PUBLISH_DROPPED);
-    CHECK(acl_ask_client_publish(0, id, name, rule, 1, 0, 1, topic) == ACL_NO_DECISION);
-    CHECK(acl_ask_client_publish(0, id, acl_absent(), rule, 1, 1, 1, topic) == 16 * (ACL_NOT_A_RULE + 256));
-    CHECK(acl_expired(1, 9, 5, 9, 6) == ACL_EXPIRED && acl_expired(1, 9, 5, 9, 5) == ACL_VALID);
-    CHECK(acl_expired(1, 9, 5, 9, UINT64_MAX) == 16 * ACL_OUT_OF_RANGE);
+    const mqtt_acl_text id = mqtt_acl_string("i"), name = mqtt_acl_string("n");
+    const mqtt_acl_text rule = mqtt_acl_string("{\"permission\":\"deny\",\"action\":\"all\",\"qos\":1,\"retain\":true,\"topic\":\"eq ${clientid}${username}\"}");
+    const mqtt_acl_text topic = mqtt_acl_string("in");
+    CHECK(mqtt_acl_ask_client_subscribe(0, id, name, rule, 1, topic) == 16 + MQTT_ACL_NOT_AUTHORIZED);
+    CHECK(mqtt_acl_ask_client_subscribe(0, id, name, rule, 0, topic) == MQTT_ACL_NO_DECISION);
+    CHECK(mqtt_acl_ask_client_subscribe(1, id, name, rule, 1, topic) == MQTT_ACL_SUBSCRIBE_QOS1);
+    CHECK(mqtt_acl_ask_client_publish(0, id, name, rule, 1, 1, 0, topic) == 16 + MQTT_ACL_PUBLISH_REFUSED);
+    CHECK(mqtt_acl_ask_client_publish(0, id, name, rule, 1, 1, 1, topic) == 16 + MQTT_ACL_PUBLISH_DROPPED);
+    CHECK(mqtt_acl_ask_client_publish(0, id, name, rule, 1, 0, 1, topic) == MQTT_ACL_NO_DECISION);
+    CHECK(mqtt_acl_ask_client_publish(0, id, mqtt_acl_absent(), rule, 1, 1, 1, topic) == 16 * (MQTT_ACL_NOT_A_RULE + 256));
+    CHECK(mqtt_acl_expired(1, 9, 5, 9, 6) == MQTT_ACL_EXPIRED && mqtt_acl_expired(1, 9, 5, 9, 5) == MQTT_ACL_VALID);
+    CHECK(mqtt_acl_expired(1, 9, 5, 9, UINT64_MAX) == 16 * MQTT_ACL_OUT_OF_RANGE);
 
     static uint8_t store[16 + 256 + 326 + 260 + 260];
-    const acl_counts counts = {256, 1, 1, 1};
-    const acl_client client = {id, name, {NULL, 0}, {NULL, 0}, 0, 0};
-    const acl_text lent = acl_bytes(store, sizeof store);
-    CHECK(acl_tell_open(store, sizeof store, counts, acl_string("[\"allow\",\"all\",\"all\",[\"%c%u\"]]")) == 0);
-    CHECK(acl_ask_publish(lent, 0, &client, topic, 0) == ACL_PUBLISH_REFUSED);
-    CHECK(acl_tell_connected(store, sizeof store, 7, id, name) == 0);
-    CHECK(acl_ask_publish(lent, 0, &client, topic, 0) == 16 + ACL_PUBLISH_ALLOWED);
-    CHECK(acl_ask_publish(lent, 2, &client, topic, 0) == 16 * 2 + ACL_KEPT);
-    CHECK(acl_tell_disconnected(store, sizeof store, 8, id) == 0 && acl_tell_disconnected(store, sizeof store, 7, name) == 0);
-    CHECK(acl_ask_publish(lent, 0, &client, topic, 0) == 16 + ACL_PUBLISH_ALLOWED);
-    CHECK(acl_tell_disconnected(store, sizeof store, 7, id) == 0 && store[14] == 1);
-    CHECK(acl_ask_publish(lent, 0, &client, topic, 0) == ACL_PUBLISH_REFUSED);
-    CHECK(acl_tell_ended(store, sizeof store, 8) == 0 && store[14] == 1);
-    CHECK(acl_tell_ended(store, sizeof store, 7) == 0 && store[14] == 0);
+    const mqtt_acl_counts counts = {256, 1, 1, 1};
+    const mqtt_acl_client client = {id, name, {NULL, 0}, {NULL, 0}, 0, 0};
+    const mqtt_acl_text lent = mqtt_acl_bytes(store, sizeof store);
+    CHECK(mqtt_acl_tell_open(store, sizeof store, counts, mqtt_acl_string("[\"allow\",\"all\",\"all\",[\"%c%u\"]]")) == 0);
+    CHECK(mqtt_acl_ask_publish(lent, 0, &client, topic, 0) == MQTT_ACL_PUBLISH_REFUSED);
+    CHECK(mqtt_acl_tell_connected(store, sizeof store, 7, id, name) == 0);
+    CHECK(mqtt_acl_ask_publish(lent, 0, &client, topic, 0) == 16 + MQTT_ACL_PUBLISH_ALLOWED);
+    CHECK(mqtt_acl_ask_publish(lent, 2, &client, topic, 0) == 16 * 2 + MQTT_ACL_KEPT);
+    CHECK(mqtt_acl_tell_disconnected(store, sizeof store, 8, id) == 0 && mqtt_acl_tell_disconnected(store, sizeof store, 7, name) == 0);
+    CHECK(mqtt_acl_ask_publish(lent, 0, &client, topic, 0) == 16 + MQTT_ACL_PUBLISH_ALLOWED);
+    CHECK(mqtt_acl_tell_disconnected(store, sizeof store, 7, id) == 0 && store[14] == 1);
+    CHECK(mqtt_acl_ask_publish(lent, 0, &client, topic, 0) == MQTT_ACL_PUBLISH_REFUSED);
+    CHECK(mqtt_acl_tell_ended(store, sizeof store, 8) == 0 && store[14] == 1);
+    CHECK(mqtt_acl_tell_ended(store, sizeof store, 7) == 0 && store[14] == 0);
 }
 
 /* Each address NULL with length 0, alone and with all others, of calls that would read or write it if it had bytes. Page 0 isn't
@@ -186,21 +186,21 @@ static void clients(void) {
 
 static void null_addresses(void) {
     static uint8_t store[16 + 256 + 326 + 260 + 260];
-    const acl_counts counts = {256, 1, 1, 1};
-    CHECK(acl_tell_open(store, sizeof store, counts, acl_string("[\"allow\",\"all\",\"all\",[\"%c\"]]")) == 0);
+    const mqtt_acl_counts counts = {256, 1, 1, 1};
+    CHECK(mqtt_acl_tell_open(store, sizeof store, counts, mqtt_acl_string("[\"allow\",\"all\",\"all\",[\"%c\"]]")) == 0);
     for (unsigned null = 0; null < 64; null++) {
-        unsigned whole = !(null & 1), three = 16 * ACL_MALFORMED;
-        uint32_t by = acl_connect(STORE(0), 0, AT(1, "i"), 1, AT(2, "n"), 1, AT(3, "p"), 1, AT(4, "a"), 4);
-        CHECK(by == (whole ? 16 + ACL_CONNECT_ALLOWED : three));
-        by = acl_subscribe(STORE(0), 0, AT(1, "i"), 1, AT(2, "n"), 1, AT(3, "p"), 1, AT(4, "a"), 1, 4, AT(5, "t"), 0);
-        CHECK(by == (whole ? ACL_UNSPECIFIED_ERROR : three));
-        by = acl_publish(STORE(0), 0, AT(1, "i"), 1, AT(2, "n"), 1, AT(3, "p"), 1, AT(4, "a"), 1, 4, AT(5, "t"), 0);
-        CHECK(by == (whole ? ACL_PUBLISH_REFUSED : three));
-        by = acl_identity(AT(0, "[\"allow\",{\"user\":\"n\"}]"), AT(1, "i"), 1, AT(2, "n"), 1, AT(3, "p"), 1, AT(4, "a"), 1, 4);
-        CHECK(by == (null & 1 ? ACL_NO_RULE : null & 4 ? ACL_DIFFERS : ACL_AGREES));
-        CHECK(acl_connected(STORE(0), 1, AT(1, "i"), 1, AT(2, "n")) == (whole ? 0 : ACL_MALFORMED));
-        CHECK(acl_disconnected(STORE(0), 1, AT(1, "i")) == (whole ? 0 : ACL_MALFORMED));
-        CHECK(acl_ended(STORE(0), 1) == (whole ? 0 : ACL_MALFORMED));
+        unsigned whole = !(null & 1), three = 16 * MQTT_ACL_MALFORMED;
+        uint32_t by = mqtt_acl_connect(STORE(0), 0, AT(1, "i"), 1, AT(2, "n"), 1, AT(3, "p"), 1, AT(4, "a"), 4);
+        CHECK(by == (whole ? 16 + MQTT_ACL_CONNECT_ALLOWED : three));
+        by = mqtt_acl_subscribe(STORE(0), 0, AT(1, "i"), 1, AT(2, "n"), 1, AT(3, "p"), 1, AT(4, "a"), 1, 4, AT(5, "t"), 0);
+        CHECK(by == (whole ? MQTT_ACL_UNSPECIFIED_ERROR : three));
+        by = mqtt_acl_publish(STORE(0), 0, AT(1, "i"), 1, AT(2, "n"), 1, AT(3, "p"), 1, AT(4, "a"), 1, 4, AT(5, "t"), 0);
+        CHECK(by == (whole ? MQTT_ACL_PUBLISH_REFUSED : three));
+        by = mqtt_acl_identity(AT(0, "[\"allow\",{\"user\":\"n\"}]"), AT(1, "i"), 1, AT(2, "n"), 1, AT(3, "p"), 1, AT(4, "a"), 1, 4);
+        CHECK(by == (null & 1 ? MQTT_ACL_NO_RULE : null & 4 ? MQTT_ACL_DIFFERS : MQTT_ACL_AGREES));
+        CHECK(mqtt_acl_connected(STORE(0), 1, AT(1, "i"), 1, AT(2, "n")) == (whole ? 0 : MQTT_ACL_MALFORMED));
+        CHECK(mqtt_acl_disconnected(STORE(0), 1, AT(1, "i")) == (whole ? 0 : MQTT_ACL_MALFORMED));
+        CHECK(mqtt_acl_ended(STORE(0), 1) == (whole ? 0 : MQTT_ACL_MALFORMED));
     }
 }
 
@@ -209,44 +209,44 @@ static void null_texts(void) {
     for (unsigned null = 0; null < 16; null++) {
         const char rule[] = "{\"permission\":\"deny\",\"action\":\"all\",\"topic\":\"eq ${clientid}${username}\"}";
         unsigned hits = (null & 11) == 0 || (null & 11) == 11;
-        uint64_t by = acl_client_subscribe(0, AT(0, "i"), 1, AT(1, "n"), AT(2, rule), 0, AT(3, "in"));
-        CHECK(by == (null & 4 || !hits ? ACL_NO_DECISION : 16 + ACL_NOT_AUTHORIZED));
-        by = acl_client_publish(0, AT(0, "i"), 1, AT(1, "n"), AT(2, rule), 0, 0, 0, AT(3, "in"));
-        CHECK(by == (null & 4 || !hits ? ACL_NO_DECISION : 16 + ACL_PUBLISH_REFUSED));
-        CHECK(acl_tree_match(AT(0, "+"), AT(1, "a")) == (!(null & 1) || null & 2));
-        CHECK(acl_plain_match(AT(0, "+"), AT(1, "a")) == (!(null & 1) || null & 2));
-        CHECK(acl_valid_filter(AT(0, "a+")) == (null & 1));
-        CHECK(acl_is_document(AT(0, "1")) == !(null & 1) && acl_is_document_within(AT(0, "1"), 0) == !(null & 1));
-        CHECK(acl_rule_refusal(AT(0, "[]")) == (null & 1 ? ACL_NOT_JSON : ACL_NOT_A_RULE));
-        CHECK(acl_open(STORE(0), 1, 1, 1, 1, AT(1, "1")) == (null & 1 ? ACL_COUNTS : null & 2 ? 0 : ACL_NOT_A_RULE + 256));
+        uint64_t by = mqtt_acl_client_subscribe(0, AT(0, "i"), 1, AT(1, "n"), AT(2, rule), 0, AT(3, "in"));
+        CHECK(by == (null & 4 || !hits ? MQTT_ACL_NO_DECISION : 16 + MQTT_ACL_NOT_AUTHORIZED));
+        by = mqtt_acl_client_publish(0, AT(0, "i"), 1, AT(1, "n"), AT(2, rule), 0, 0, 0, AT(3, "in"));
+        CHECK(by == (null & 4 || !hits ? MQTT_ACL_NO_DECISION : 16 + MQTT_ACL_PUBLISH_REFUSED));
+        CHECK(mqtt_acl_tree_match(AT(0, "+"), AT(1, "a")) == (!(null & 1) || null & 2));
+        CHECK(mqtt_acl_plain_match(AT(0, "+"), AT(1, "a")) == (!(null & 1) || null & 2));
+        CHECK(mqtt_acl_valid_filter(AT(0, "a+")) == (null & 1));
+        CHECK(mqtt_acl_is_document(AT(0, "1")) == !(null & 1) && mqtt_acl_is_document_within(AT(0, "1"), 0) == !(null & 1));
+        CHECK(mqtt_acl_rule_refusal(AT(0, "[]")) == (null & 1 ? MQTT_ACL_NOT_JSON : MQTT_ACL_NOT_A_RULE));
+        CHECK(mqtt_acl_open(STORE(0), 1, 1, 1, 1, AT(1, "1")) == (null & 1 ? MQTT_ACL_COUNTS : null & 2 ? 0 : MQTT_ACL_NOT_A_RULE + 256));
     }
 }
 
 /* A flag is false at 0 and true at any other value, in each call that takes one. */
 static void flags(void) {
     static uint8_t store[16 + 256 + 326 + 260 + 260];
-    const acl_counts counts = {256, 1, 1, 1};
+    const mqtt_acl_counts counts = {256, 1, 1, 1};
     const char *const rules[] = {"[\"allow\",{\"user\":\"x\"}]", "[\"allow\",{\"user\":\"x\",\"password\":\"x\"}]",
                                  "[\"allow\",{\"ipaddr\":\"x\"}]", "[\"allow\",{\"protocol\":4}]"};
     const uint8_t *const x = (const uint8_t *)"x";
     for (int r = 0; r < 4; r++) {
-        CHECK(acl_tell_open(store, sizeof store, counts, acl_string(rules[r])) == 0);
+        CHECK(mqtt_acl_tell_open(store, sizeof store, counts, mqtt_acl_string(rules[r])) == 0);
         for (unsigned flag = 0; flag < 256; flag++) {
             uint8_t n = (uint8_t)(r == 0 ? flag : r == 1), p = (uint8_t)(r == 1 ? flag : 0), a = (uint8_t)(r == 2 ? flag : 0),
                     q = (uint8_t)(r == 3 ? flag : 0), d = (uint8_t)flag;
             unsigned is = flag != 0;
-            CHECK(acl_identity((const uint8_t *)rules[r], strlen(rules[r]), x, 1, n, x, 1, p, x, 1, a, x, 1, q, 4) == is);
-            CHECK(acl_answer_allows(acl_connect(store, sizeof store, 0, x, 1, n, x, 1, p, x, 1, a, x, 1, 4)) == (is || r == 3));
-            CHECK(acl_answer_allows(acl_subscribe(store, sizeof store, 0, x, 1, n, x, 1, p, x, 1, a, x, 1, q, 4, x, 1, 0)) == is);
-            CHECK(acl_answer_allows(acl_publish(store, sizeof store, 0, x, 1, n, x, 1, p, x, 1, a, x, 1, q, 4, x, 1, d)) == is);
-            CHECK(acl_publish(store, sizeof store, 0, x, 1, 0, x, 1, 0, x, 1, 0, x, 1, 0, 4, x, 1, d) == ACL_PUBLISH_REFUSED + is);
+            CHECK(mqtt_acl_identity((const uint8_t *)rules[r], strlen(rules[r]), x, 1, n, x, 1, p, x, 1, a, x, 1, q, 4) == is);
+            CHECK(mqtt_acl_answer_allows(mqtt_acl_connect(store, sizeof store, 0, x, 1, n, x, 1, p, x, 1, a, x, 1, 4)) == (is || r == 3));
+            CHECK(mqtt_acl_answer_allows(mqtt_acl_subscribe(store, sizeof store, 0, x, 1, n, x, 1, p, x, 1, a, x, 1, q, 4, x, 1, 0)) == is);
+            CHECK(mqtt_acl_answer_allows(mqtt_acl_publish(store, sizeof store, 0, x, 1, n, x, 1, p, x, 1, a, x, 1, q, 4, x, 1, d)) == is);
+            CHECK(mqtt_acl_publish(store, sizeof store, 0, x, 1, 0, x, 1, 0, x, 1, 0, x, 1, 0, 4, x, 1, d) == MQTT_ACL_PUBLISH_REFUSED + is);
         }
     }
 }
 
 static void client_flags(void) {
     static uint8_t store[16 + 256 + 326 + 260 + 260];
-    const acl_counts counts = {256, 1, 1, 1};
+    const mqtt_acl_counts counts = {256, 1, 1, 1};
     const uint8_t *const x = (const uint8_t *)"x";
     const char rule[] = "{\"permission\":\"deny\",\"action\":\"publish\",\"retain\":true,\"topic\":\"eq x\"}";
     const char named[] = "{\"permission\":\"deny\",\"action\":\"all\",\"topic\":\"eq ${username}\"}";
@@ -255,15 +255,15 @@ static void client_flags(void) {
     for (unsigned flag = 0; flag < 256; flag++) {
         uint8_t f = (uint8_t)flag;
         unsigned is = flag != 0;
-        CHECK(acl_client_subscribe(f, x, 1, 0, x, 1, r, l, 2, x, 1) == (is ? ACL_SUBSCRIBE_QOS2 : ACL_NO_DECISION));
-        CHECK(acl_client_publish(f, x, 1, 0, x, 1, r, l, 0, 0, 0, x, 1) == (is ? ACL_PUBLISH_ALLOWED : ACL_NO_DECISION));
-        CHECK(acl_client_publish(0, x, 1, 0, x, 1, r, l, 0, f, 0, x, 1) == (is ? 16 + ACL_PUBLISH_REFUSED : ACL_NO_DECISION));
-        CHECK(acl_client_publish(0, x, 1, 0, x, 1, r, l, 0, 1, f, x, 1) == 16 + ACL_PUBLISH_REFUSED + is);
-        CHECK(acl_client_publish(0, x, 1, f, x, 1, t, m, 0, 1, 0, x, 1) == (is ? 16 + ACL_PUBLISH_REFUSED : 16 * (ACL_NOT_A_RULE + 256)));
-        CHECK(acl_client_subscribe(0, x, 1, f, x, 1, t, m, 0, x, 1) == (is ? 16 + ACL_NOT_AUTHORIZED : 16 * (ACL_NOT_A_RULE + 256)));
-        CHECK(acl_expired(f, 0, 0, 1, 0) == (is ? ACL_EXPIRED : ACL_VALID));
-        CHECK(acl_tell_open(store, sizeof store, counts, acl_string("[\"allow\",\"all\",\"all\",[\"%u\"]]")) == 0);
-        CHECK(acl_connected(store, sizeof store, 0, x, 1, f, x, 1) == 0 && store[10] == 1);
+        CHECK(mqtt_acl_client_subscribe(f, x, 1, 0, x, 1, r, l, 2, x, 1) == (is ? MQTT_ACL_SUBSCRIBE_QOS2 : MQTT_ACL_NO_DECISION));
+        CHECK(mqtt_acl_client_publish(f, x, 1, 0, x, 1, r, l, 0, 0, 0, x, 1) == (is ? MQTT_ACL_PUBLISH_ALLOWED : MQTT_ACL_NO_DECISION));
+        CHECK(mqtt_acl_client_publish(0, x, 1, 0, x, 1, r, l, 0, f, 0, x, 1) == (is ? 16 + MQTT_ACL_PUBLISH_REFUSED : MQTT_ACL_NO_DECISION));
+        CHECK(mqtt_acl_client_publish(0, x, 1, 0, x, 1, r, l, 0, 1, f, x, 1) == 16 + MQTT_ACL_PUBLISH_REFUSED + is);
+        CHECK(mqtt_acl_client_publish(0, x, 1, f, x, 1, t, m, 0, 1, 0, x, 1) == (is ? 16 + MQTT_ACL_PUBLISH_REFUSED : 16 * (MQTT_ACL_NOT_A_RULE + 256)));
+        CHECK(mqtt_acl_client_subscribe(0, x, 1, f, x, 1, t, m, 0, x, 1) == (is ? 16 + MQTT_ACL_NOT_AUTHORIZED : 16 * (MQTT_ACL_NOT_A_RULE + 256)));
+        CHECK(mqtt_acl_expired(f, 0, 0, 1, 0) == (is ? MQTT_ACL_EXPIRED : MQTT_ACL_VALID));
+        CHECK(mqtt_acl_tell_open(store, sizeof store, counts, mqtt_acl_string("[\"allow\",\"all\",\"all\",[\"%u\"]]")) == 0);
+        CHECK(mqtt_acl_connected(store, sizeof store, 0, x, 1, f, x, 1) == 0 && store[10] == 1);
         CHECK(store[16 + 256 + 2] == is);
     }
 }
@@ -273,24 +273,24 @@ static void text_lengths(void) {
     static uint8_t store[16 + 1 + 326 + 260 + 260];
     static const char long_text[258] = {0};
     const size_t most[] = {64, 64, 128, 45, 256};
-    const acl_counts counts = {1, 1, 1, 1};
-    const acl_text lent = acl_bytes(store, sizeof store);
-    CHECK(acl_tell_open(store, sizeof store, counts, acl_absent()) == 0);
+    const mqtt_acl_counts counts = {1, 1, 1, 1};
+    const mqtt_acl_text lent = mqtt_acl_bytes(store, sizeof store);
+    CHECK(mqtt_acl_tell_open(store, sizeof store, counts, mqtt_acl_absent()) == 0);
     for (int place = 0; place < 5; place++)
         for (size_t past = 0; past < 2; past++) {
-            acl_text texts[5] = {{"i", 1}, {NULL, 0}, {NULL, 0}, {NULL, 0}, {"t", 1}};
-            texts[place] = acl_bytes(long_text, most[place] + past);
-            const acl_client c = {texts[0], texts[1], texts[2], texts[3], 0, 0};
-            unsigned by = past ? ACL_TOO_LONG : 0;
-            CHECK(acl_answer_refusal(acl_ask_connect(lent, 0, &c)) == (place < 4 ? by : 0));
-            CHECK(acl_answer_refusal(acl_ask_subscribe(lent, 0, &c, texts[4], 0)) == by);
-            CHECK(acl_answer_refusal(acl_ask_publish(lent, 0, &c, texts[4], 0)) == by);
+            mqtt_acl_text texts[5] = {{"i", 1}, {NULL, 0}, {NULL, 0}, {NULL, 0}, {"t", 1}};
+            texts[place] = mqtt_acl_bytes(long_text, most[place] + past);
+            const mqtt_acl_client c = {texts[0], texts[1], texts[2], texts[3], 0, 0};
+            unsigned by = past ? MQTT_ACL_TOO_LONG : 0;
+            CHECK(mqtt_acl_answer_refusal(mqtt_acl_ask_connect(lent, 0, &c)) == (place < 4 ? by : 0));
+            CHECK(mqtt_acl_answer_refusal(mqtt_acl_ask_subscribe(lent, 0, &c, texts[4], 0)) == by);
+            CHECK(mqtt_acl_answer_refusal(mqtt_acl_ask_publish(lent, 0, &c, texts[4], 0)) == by);
             unsigned own = place == 2 || place == 3 ? 0 : by;
-            CHECK(acl_answer_refusal(acl_ask_client_subscribe(0, c.id, c.name, acl_absent(), 0, texts[4])) == own);
-            CHECK(acl_answer_refusal(acl_ask_client_publish(0, c.id, c.name, acl_absent(), 0, 0, 0, texts[4])) == own);
-            CHECK(acl_tell_connected(store, sizeof store, 0, c.id, c.name) == (place < 2 ? by : 0));
-            CHECK(acl_tell_disconnected(store, sizeof store, 0, c.id) == (place < 1 ? by : 0));
-            CHECK(acl_ask_identity(acl_string("[\"allow\",\"all\"]"), &c) == ACL_AGREES);
+            CHECK(mqtt_acl_answer_refusal(mqtt_acl_ask_client_subscribe(0, c.id, c.name, mqtt_acl_absent(), 0, texts[4])) == own);
+            CHECK(mqtt_acl_answer_refusal(mqtt_acl_ask_client_publish(0, c.id, c.name, mqtt_acl_absent(), 0, 0, 0, texts[4])) == own);
+            CHECK(mqtt_acl_tell_connected(store, sizeof store, 0, c.id, c.name) == (place < 2 ? by : 0));
+            CHECK(mqtt_acl_tell_disconnected(store, sizeof store, 0, c.id) == (place < 1 ? by : 0));
+            CHECK(mqtt_acl_ask_identity(mqtt_acl_string("[\"allow\",\"all\"]"), &c) == MQTT_ACL_AGREES);
         }
 }
 
@@ -299,26 +299,26 @@ static uint64_t over(uint64_t most, uint64_t past) { return past == UINT64_MAX ?
 /* Each number that can be refused: the last that isn't, those past it, and the largest. */
 static void numbers(void) {
     static uint8_t store[16 + 1 + 326 + 260 + 260];
-    const acl_counts counts = {1, 1, 1, 1};
-    const acl_text lent = acl_bytes(store, sizeof store), none = acl_absent(), t = acl_string("t");
-    const acl_client c = {{"i", 1}, {NULL, 0}, {NULL, 0}, {NULL, 0}, 0, 0};
+    const mqtt_acl_counts counts = {1, 1, 1, 1};
+    const mqtt_acl_text lent = mqtt_acl_bytes(store, sizeof store), none = mqtt_acl_absent(), t = mqtt_acl_string("t");
+    const mqtt_acl_client c = {{"i", 1}, {NULL, 0}, {NULL, 0}, {NULL, 0}, 0, 0};
     const uint64_t past[] = {0, 1, UINT64_C(1) << 8, UINT64_C(1) << 16, UINT64_C(1) << 32, UINT64_C(1) << 63, UINT64_MAX};
-    CHECK(acl_tell_open(store, sizeof store, counts, none) == 0);
+    CHECK(mqtt_acl_tell_open(store, sizeof store, counts, none) == 0);
     for (int i = 0; i < 7; i++) {
-        unsigned by = i ? ACL_OUT_OF_RANGE : 0;
+        unsigned by = i ? MQTT_ACL_OUT_OF_RANGE : 0;
         uint64_t session = over(255, past[i]), four = over(4, past[i]), two = over(2, past[i]), nanoseconds = over(999999999, past[i]);
-        CHECK(acl_tell_connected(store, sizeof store, session, c.id, none) == by);
-        CHECK(acl_tell_disconnected(store, sizeof store, session, c.id) == by && acl_tell_ended(store, sizeof store, session) == by);
-        CHECK(acl_answer_refusal(acl_ask_connect(lent, four, &c)) == by);
-        CHECK(acl_answer_refusal(acl_ask_subscribe(lent, two, &c, t, 0)) == by);
-        CHECK(acl_answer_refusal(acl_ask_subscribe(lent, 0, &c, t, two)) == by);
-        CHECK(acl_answer_refusal(acl_ask_publish(lent, two, &c, t, 0)) == by);
-        CHECK(acl_answer_refusal(acl_ask_client_subscribe(0, c.id, none, none, two, t)) == by);
-        CHECK(acl_answer_refusal(acl_ask_client_publish(1, c.id, none, none, two, 0, 0, t)) == by);
-        CHECK(acl_answer_refusal(acl_expired(1, UINT64_MAX, nanoseconds, UINT64_MAX, 0)) == by);
-        CHECK(acl_answer_refusal(acl_expired(1, UINT64_MAX, 0, UINT64_MAX, nanoseconds)) == by);
-        CHECK(acl_answer_refusal(acl_expired(0, 0, nanoseconds, UINT64_MAX, 0)) == 0);
-        CHECK(acl_answer_refusal(acl_expired(0, 0, 0, UINT64_MAX, nanoseconds)) == by);
+        CHECK(mqtt_acl_tell_connected(store, sizeof store, session, c.id, none) == by);
+        CHECK(mqtt_acl_tell_disconnected(store, sizeof store, session, c.id) == by && mqtt_acl_tell_ended(store, sizeof store, session) == by);
+        CHECK(mqtt_acl_answer_refusal(mqtt_acl_ask_connect(lent, four, &c)) == by);
+        CHECK(mqtt_acl_answer_refusal(mqtt_acl_ask_subscribe(lent, two, &c, t, 0)) == by);
+        CHECK(mqtt_acl_answer_refusal(mqtt_acl_ask_subscribe(lent, 0, &c, t, two)) == by);
+        CHECK(mqtt_acl_answer_refusal(mqtt_acl_ask_publish(lent, two, &c, t, 0)) == by);
+        CHECK(mqtt_acl_answer_refusal(mqtt_acl_ask_client_subscribe(0, c.id, none, none, two, t)) == by);
+        CHECK(mqtt_acl_answer_refusal(mqtt_acl_ask_client_publish(1, c.id, none, none, two, 0, 0, t)) == by);
+        CHECK(mqtt_acl_answer_refusal(mqtt_acl_expired(1, UINT64_MAX, nanoseconds, UINT64_MAX, 0)) == by);
+        CHECK(mqtt_acl_answer_refusal(mqtt_acl_expired(1, UINT64_MAX, 0, UINT64_MAX, nanoseconds)) == by);
+        CHECK(mqtt_acl_answer_refusal(mqtt_acl_expired(0, 0, nanoseconds, UINT64_MAX, 0)) == 0);
+        CHECK(mqtt_acl_answer_refusal(mqtt_acl_expired(0, 0, 0, UINT64_MAX, nanoseconds)) == by);
     }
 }
 
@@ -335,6 +335,6 @@ int main(void) {
     places();
     absent();
     clients();
-    printf("acl.h: %lu checks hold\n", checks);
+    printf("mqtt_acl.h: %lu checks hold\n", checks);
     return 0;
 }

@@ -1,15 +1,15 @@
 /* Access rules from C: a store for two rules, questions and events on it, a client's own rules, its expiry.
-   Build: cc -std=c99 -I include examples/c/bench.c target/staticlib/libffi.a -o target/c/bench (examples/c/run does) */
+   Build: cc -std=c99 -I include examples/c/bench.c target/staticlib/libmqtt_acl.a -o target/c/bench (examples/c/run does) */
 #include <stdio.h>
 #include <stdlib.h>
 
-#include "acl.h"
+#include "mqtt_acl.h"
 
 static void says(const char *what, uint64_t answer) {
-    if (acl_answer_what(answer) == ACL_REFUSED)
-        printf("%-34s error %u, line %u\n", what, (unsigned)acl_answer_refusal(answer), (unsigned)acl_answer_line(answer));
+    if (mqtt_acl_answer_what(answer) == MQTT_ACL_REFUSED)
+        printf("%-34s error %u, line %u\n", what, (unsigned)mqtt_acl_answer_refusal(answer), (unsigned)mqtt_acl_answer_line(answer));
     else
-        printf("%-34s %s %u\n", what, acl_answer_word(answer), (unsigned)acl_answer_rule(answer));
+        printf("%-34s %s %u\n", what, mqtt_acl_answer_word(answer), (unsigned)mqtt_acl_answer_rule(answer));
 }
 
 static void done(const char *what, uint8_t answer) {
@@ -20,51 +20,51 @@ static void done(const char *what, uint8_t answer) {
 }
 
 int main(void) {
-    const acl_counts counts = {2048, 64, 32, 64};
-    const acl_text rules = acl_string("[\"allow\",{\"user\":\"bo\"},\"publish\",[\"bench/%c/set\"]]\n[\"deny\",\"all\",\"pubsub\"]\n");
-    const acl_text topic = acl_string("bench/g7/set");
-    const acl_client g7 = {{"g7", 2}, {"bo", 2}, {NULL, 0}, {NULL, 0}, 1, 4};
+    const mqtt_acl_counts counts = {2048, 64, 32, 64};
+    const mqtt_acl_text rules = mqtt_acl_string("[\"allow\",{\"user\":\"bo\"},\"publish\",[\"bench/%c/set\"]]\n[\"deny\",\"all\",\"pubsub\"]\n");
+    const mqtt_acl_text topic = mqtt_acl_string("bench/g7/set");
+    const mqtt_acl_client g7 = {{"g7", 2}, {"bo", 2}, {NULL, 0}, {NULL, 0}, 1, 4};
 
-    size_t length = acl_store_length(counts);
+    size_t length = mqtt_acl_store_length(counts);
     uint8_t *store = (uint8_t *)malloc(length);
     if (store == NULL) return 1;
 
     /* A rule text whose second line is no rule, then the right one. */
-    uint32_t opened = acl_tell_open(store, length, counts, acl_string("[\"deny\",\"all\"]\n[\"perhaps\",\"all\"]\n"));
-    printf("%-34s error %u, line %u\n", "open, a faulty line", (unsigned)acl_open_refusal(opened), (unsigned)acl_open_line(opened));
-    opened = acl_tell_open(store, length, counts, rules);
+    uint32_t opened = mqtt_acl_tell_open(store, length, counts, mqtt_acl_string("[\"deny\",\"all\"]\n[\"perhaps\",\"all\"]\n"));
+    printf("%-34s error %u, line %u\n", "open, a faulty line", (unsigned)mqtt_acl_open_refusal(opened), (unsigned)mqtt_acl_open_line(opened));
+    opened = mqtt_acl_tell_open(store, length, counts, rules);
     printf("%-34s %s, %lu bytes\n", "open", opened == 0 ? "done" : "error", (unsigned long)length);
     if (opened != 0) return 1;
 
-    const acl_text lent = acl_bytes(store, length);
-    says("connect", acl_ask_connect(lent, 0, &g7));
-    says("connect, not authorized before", acl_ask_connect(lent, 4, &g7));
-    says("publish before connected", acl_ask_publish(lent, 0, &g7, topic, 1));
-    done("connected", acl_tell_connected(store, length, 1, g7.id, g7.name));
-    says("publish", acl_ask_publish(lent, 0, &g7, topic, 1));
-    says("publish another's", acl_ask_publish(lent, 0, &g7, acl_string("bench/g8/set"), 0));
-    says("subscribe", acl_ask_subscribe(lent, 0, &g7, topic, 1));
-    says("subscribe, QoS 3", acl_ask_subscribe(lent, 0, &g7, topic, 3));
-    done("connected, session 256", acl_tell_connected(store, length, 256, g7.id, g7.name));
-    done("disconnected", acl_tell_disconnected(store, length, 1, g7.id));
-    done("ended", acl_tell_ended(store, length, 1));
-    says("publish after disconnected", acl_ask_publish(lent, 0, &g7, topic, 1));
+    const mqtt_acl_text lent = mqtt_acl_bytes(store, length);
+    says("connect", mqtt_acl_ask_connect(lent, 0, &g7));
+    says("connect, not authorized before", mqtt_acl_ask_connect(lent, 4, &g7));
+    says("publish before connected", mqtt_acl_ask_publish(lent, 0, &g7, topic, 1));
+    done("connected", mqtt_acl_tell_connected(store, length, 1, g7.id, g7.name));
+    says("publish", mqtt_acl_ask_publish(lent, 0, &g7, topic, 1));
+    says("publish another's", mqtt_acl_ask_publish(lent, 0, &g7, mqtt_acl_string("bench/g8/set"), 0));
+    says("subscribe", mqtt_acl_ask_subscribe(lent, 0, &g7, topic, 1));
+    says("subscribe, QoS 3", mqtt_acl_ask_subscribe(lent, 0, &g7, topic, 3));
+    done("connected, session 256", mqtt_acl_tell_connected(store, length, 256, g7.id, g7.name));
+    done("disconnected", mqtt_acl_tell_disconnected(store, length, 1, g7.id));
+    done("ended", mqtt_acl_tell_ended(store, length, 1));
+    says("publish after disconnected", mqtt_acl_ask_publish(lent, 0, &g7, topic, 1));
 
     /* The rules that came with a client's credentials; NULL is no user name. */
-    const acl_text own = acl_string("{\"permission\":\"allow\",\"action\":\"publish\",\"topic\":\"bench/${clientid}/#\"}\n"
+    const mqtt_acl_text own = mqtt_acl_string("{\"permission\":\"allow\",\"action\":\"publish\",\"topic\":\"bench/${clientid}/#\"}\n"
                                     "{\"permission\":\"deny\",\"action\":\"subscribe\",\"qos\":2,\"topic\":\"#\"}\n");
-    says("client: publish", acl_ask_client_publish(0, g7.id, acl_absent(), own, 0, 0, 1, topic));
-    says("client: publish, another topic", acl_ask_client_publish(0, g7.id, acl_absent(), own, 0, 0, 1, acl_string("a/b")));
-    says("client: subscribe, QoS 2", acl_ask_client_subscribe(0, g7.id, g7.name, own, 2, topic));
-    says("client: subscribe, a superuser", acl_ask_client_subscribe(1, g7.id, g7.name, own, 2, topic));
-    says("client: a line that is no JSON", acl_ask_client_subscribe(0, g7.id, g7.name, acl_string("{}{"), 0, topic));
+    says("client: publish", mqtt_acl_ask_client_publish(0, g7.id, mqtt_acl_absent(), own, 0, 0, 1, topic));
+    says("client: publish, another topic", mqtt_acl_ask_client_publish(0, g7.id, mqtt_acl_absent(), own, 0, 0, 1, mqtt_acl_string("a/b")));
+    says("client: subscribe, QoS 2", mqtt_acl_ask_client_subscribe(0, g7.id, g7.name, own, 2, topic));
+    says("client: subscribe, a superuser", mqtt_acl_ask_client_subscribe(1, g7.id, g7.name, own, 2, topic));
+    says("client: a line that is no JSON", mqtt_acl_ask_client_subscribe(0, g7.id, g7.name, mqtt_acl_string("{}{"), 0, topic));
 
-    says("expiry 99.5 s, now 99.5 s", acl_expired(1, 99, 500000000, 99, 500000000));
-    says("expiry 99.5 s, now 100 s", acl_expired(1, 99, 500000000, 100, 0));
-    says("no expiry", acl_expired(0, 0, 0, UINT64_MAX, 0));
+    says("expiry 99.5 s, now 99.5 s", mqtt_acl_expired(1, 99, 500000000, 99, 500000000));
+    says("expiry 99.5 s, now 100 s", mqtt_acl_expired(1, 99, 500000000, 100, 0));
+    says("no expiry", mqtt_acl_expired(0, 0, 0, UINT64_MAX, 0));
 
-    printf("%-34s T %s, P %s\n", "a/# takes a/$b", acl_ask_tree_match(acl_string("a/#"), acl_string("a/$b")) ? "yes" : "no",
-           acl_ask_plain_match(acl_string("a/#"), acl_string("a/$b")) ? "yes" : "no");
+    printf("%-34s T %s, P %s\n", "a/# takes a/$b", mqtt_acl_ask_tree_match(mqtt_acl_string("a/#"), mqtt_acl_string("a/$b")) ? "yes" : "no",
+           mqtt_acl_ask_plain_match(mqtt_acl_string("a/#"), mqtt_acl_string("a/$b")) ? "yes" : "no");
     free(store);
     return 0;
 }

@@ -1,5 +1,5 @@
 //! What the calls answer, and how it is read from their numbers, by the parts that the library takes them apart
-//! into (crates/ffi/specs/Unpacked.antt); what allows is what the library says does. No two answers have the
+//! into (crates/mqtt_acl/specs/Unpacked.antt); what allows is what the library says does. No two answers have the
 //! same number; a number that is no answer can come only from another library, and panics.
 
 use std::error::Error;
@@ -271,7 +271,7 @@ pub(crate) fn identity(answer: u8) -> Identity {
         1 => Identity::Agrees { superuser: false },
         2 => Identity::Agrees { superuser: true },
         3 => Identity::NoRule,
-        _ => panic!("{answer} is no answer of acl_identity"),
+        _ => panic!("{answer} is no answer of mqtt_acl_identity"),
     }
 }
 
@@ -282,7 +282,7 @@ pub(crate) fn connect(answer: u32) -> Result<Connect, Refusal> {
         1 => Ok(Connect::Kept(parts.kept())),
         2 | 3 if parts.allows => Ok(Connect::Allow { rule: parts.by(), superuser: parts.superuser }),
         8 => Ok(Connect::Refuse { rule: parts.by() }),
-        _ => panic!("{answer} is no answer of acl_connect"),
+        _ => panic!("{answer} is no answer of mqtt_acl_connect"),
     }
 }
 
@@ -293,7 +293,7 @@ pub(crate) fn subscribe(answer: u32) -> Result<Subscribe, Refusal> {
         1 => Ok(Subscribe::Kept(parts.kept())),
         4..=6 if parts.allows => Ok(Subscribe::Allow { rule: parts.by(), qos: parts.qos }),
         11 => Ok(Subscribe::Refuse { rule: parts.by() }),
-        _ => panic!("{answer} is no answer of acl_subscribe"),
+        _ => panic!("{answer} is no answer of mqtt_acl_subscribe"),
     }
 }
 
@@ -304,7 +304,7 @@ pub(crate) fn publish(answer: u32) -> Result<Publish, Refusal> {
         1 => Ok(Publish::Kept(parts.kept())),
         7 if parts.allows => Ok(Publish::Allow { rule: parts.by() }),
         9 | 10 => Ok(Publish::Refuse { rule: parts.by(), disconnect: parts.disconnect }),
-        _ => panic!("{answer} is no answer of acl_publish"),
+        _ => panic!("{answer} is no answer of mqtt_acl_publish"),
     }
 }
 
@@ -315,7 +315,7 @@ pub(crate) fn client_subscribe(answer: u64) -> Result<ClientSubscribe, LineRefus
         4..=6 if parts.allows => Ok(ClientSubscribe::Allow { rule: parts.by(), qos: parts.qos }),
         8 => Ok(ClientSubscribe::Refuse { rule: parts.by() }),
         12 => Ok(ClientSubscribe::NoDecision),
-        _ => panic!("{answer} is no answer of acl_client_subscribe"),
+        _ => panic!("{answer} is no answer of mqtt_acl_client_subscribe"),
     }
 }
 
@@ -326,7 +326,7 @@ pub(crate) fn client_publish(answer: u64) -> Result<ClientPublish, LineRefusal> 
         7 if parts.allows => Ok(ClientPublish::Allow { rule: parts.by() }),
         9 | 10 => Ok(ClientPublish::Refuse { rule: parts.by(), disconnect: parts.disconnect }),
         12 => Ok(ClientPublish::NoDecision),
-        _ => panic!("{answer} is no answer of acl_client_publish"),
+        _ => panic!("{answer} is no answer of mqtt_acl_client_publish"),
     }
 }
 
@@ -336,7 +336,7 @@ pub(crate) fn expired(answer: u64) -> Result<bool, Refusal> {
         0 => Err(parts.refused()),
         13 => Ok(false),
         14 => Ok(true),
-        _ => panic!("{answer} is no answer of acl_expired"),
+        _ => panic!("{answer} is no answer of mqtt_acl_expired"),
     }
 }
 

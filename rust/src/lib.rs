@@ -33,12 +33,12 @@
 //!
 //! # Building
 //!
-//! `rt staticlib ffi` in the repository proves the functions and writes target/staticlib/libffi.a, for
-//! x86-64. build.rs links it from there, or from the folder that the environment variable `ACL_LIB` names.
+//! `rt staticlib mqtt_acl` in the repository proves the functions and writes target/staticlib/libmqtt_acl.a, for
+//! x86-64. build.rs links it from there, or from the folder that the environment variable `MQTT_ACL_LIB` names.
 #![deny(missing_docs, unsafe_code, unsafe_op_in_unsafe_fn)]
 
 #[cfg(not(all(target_arch = "x86_64", target_pointer_width = "64")))]
-compile_error!("libffi.a is for x86-64");
+compile_error!("libmqtt_acl.a is for x86-64");
 
 mod answers;
 mod authinfo;

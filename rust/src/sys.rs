@@ -1,4 +1,4 @@
-//! The exported functions as crates/ffi declares them, and each as a safe function on slices. All of the
+//! The exported functions as crates/mqtt_acl declares them, and each as a safe function on slices. All of the
 //! crate's unsafe code is here.
 //!
 //! Why a safe caller cannot break what the library takes for granted, the same for every call below:
@@ -13,23 +13,23 @@ use crate::{AuthInfo, Client};
 
 mod exported {
     extern "C" {
-        pub fn acl_valid_filter(text: *const u8, text_length: usize) -> u8;
-        pub fn acl_tree_match(
+        pub fn mqtt_acl_valid_filter(text: *const u8, text_length: usize) -> u8;
+        pub fn mqtt_acl_tree_match(
             filter: *const u8,
             filter_length: usize,
             text: *const u8,
             text_length: usize,
         ) -> u8;
-        pub fn acl_plain_match(
+        pub fn mqtt_acl_plain_match(
             filter: *const u8,
             filter_length: usize,
             text: *const u8,
             text_length: usize,
         ) -> u8;
-        pub fn acl_is_document(line: *const u8, line_length: usize) -> u8;
-        pub fn acl_is_document_within(line: *const u8, line_length: usize, most: usize) -> u8;
-        pub fn acl_rule_refusal(line: *const u8, line_length: usize) -> u8;
-        pub fn acl_identity(
+        pub fn mqtt_acl_is_document(line: *const u8, line_length: usize) -> u8;
+        pub fn mqtt_acl_is_document_within(line: *const u8, line_length: usize, most: usize) -> u8;
+        pub fn mqtt_acl_rule_refusal(line: *const u8, line_length: usize) -> u8;
+        pub fn mqtt_acl_identity(
             line: *const u8,
             line_length: usize,
             id: *const u8,
@@ -46,7 +46,7 @@ mod exported {
             has_protocol: u8,
             protocol: u8,
         ) -> u8;
-        pub fn acl_open(
+        pub fn mqtt_acl_open(
             store: *mut u8,
             store_length: usize,
             bytes: u64,
@@ -56,7 +56,7 @@ mod exported {
             text: *const u8,
             text_length: usize,
         ) -> u32;
-        pub fn acl_connected(
+        pub fn mqtt_acl_connected(
             store: *mut u8,
             store_length: usize,
             session: u64,
@@ -66,15 +66,15 @@ mod exported {
             name: *const u8,
             name_length: usize,
         ) -> u8;
-        pub fn acl_disconnected(
+        pub fn mqtt_acl_disconnected(
             store: *mut u8,
             store_length: usize,
             session: u64,
             id: *const u8,
             id_length: usize,
         ) -> u8;
-        pub fn acl_ended(store: *mut u8, store_length: usize, session: u64) -> u8;
-        pub fn acl_connect(
+        pub fn mqtt_acl_ended(store: *mut u8, store_length: usize, session: u64) -> u8;
+        pub fn mqtt_acl_connect(
             store: *const u8,
             store_length: usize,
             earlier: u64,
@@ -91,7 +91,7 @@ mod exported {
             address_length: usize,
             protocol: u8,
         ) -> u32;
-        pub fn acl_subscribe(
+        pub fn mqtt_acl_subscribe(
             store: *const u8,
             store_length: usize,
             earlier: u64,
@@ -112,7 +112,7 @@ mod exported {
             topic_length: usize,
             qos: u64,
         ) -> u32;
-        pub fn acl_publish(
+        pub fn mqtt_acl_publish(
             store: *const u8,
             store_length: usize,
             earlier: u64,
@@ -133,7 +133,7 @@ mod exported {
             topic_length: usize,
             disconnect: u8,
         ) -> u32;
-        pub fn acl_client_subscribe(
+        pub fn mqtt_acl_client_subscribe(
             superuser: u8,
             id: *const u8,
             id_length: usize,
@@ -146,7 +146,7 @@ mod exported {
             topic: *const u8,
             topic_length: usize,
         ) -> u64;
-        pub fn acl_client_publish(
+        pub fn mqtt_acl_client_publish(
             superuser: u8,
             id: *const u8,
             id_length: usize,
@@ -161,24 +161,24 @@ mod exported {
             topic: *const u8,
             topic_length: usize,
         ) -> u64;
-        pub fn acl_expired(
+        pub fn mqtt_acl_expired(
             has_expiry: u8,
             expiry_seconds: u64,
             expiry_nanoseconds: u64,
             seconds: u64,
             nanoseconds: u64,
         ) -> u64;
-        pub fn acl_answer_what(answer: u64) -> u8;
-        pub fn acl_answer_allows(answer: u64) -> u8;
-        pub fn acl_answer_rule(answer: u64) -> u64;
-        pub fn acl_answer_code(answer: u64) -> u64;
-        pub fn acl_answer_qos(answer: u64) -> u8;
-        pub fn acl_answer_superuser(answer: u64) -> u8;
-        pub fn acl_answer_disconnect(answer: u64) -> u8;
-        pub fn acl_answer_refusal(answer: u64) -> u8;
-        pub fn acl_answer_line(answer: u64) -> u64;
-        pub fn acl_open_refusal(answer: u32) -> u8;
-        pub fn acl_open_line(answer: u32) -> u32;
+        pub fn mqtt_acl_answer_what(answer: u64) -> u8;
+        pub fn mqtt_acl_answer_allows(answer: u64) -> u8;
+        pub fn mqtt_acl_answer_rule(answer: u64) -> u64;
+        pub fn mqtt_acl_answer_code(answer: u64) -> u64;
+        pub fn mqtt_acl_answer_qos(answer: u64) -> u8;
+        pub fn mqtt_acl_answer_superuser(answer: u64) -> u8;
+        pub fn mqtt_acl_answer_disconnect(answer: u64) -> u8;
+        pub fn mqtt_acl_answer_refusal(answer: u64) -> u8;
+        pub fn mqtt_acl_answer_line(answer: u64) -> u64;
+        pub fn mqtt_acl_open_refusal(answer: u32) -> u8;
+        pub fn mqtt_acl_open_line(answer: u32) -> u32;
     }
 }
 
@@ -190,32 +190,32 @@ fn lent(text: Option<&[u8]>) -> (u8, *const u8, usize) {
 
 pub(crate) fn valid_filter(text: &[u8]) -> bool {
     // SAFETY: see the module; the function only reads.
-    unsafe { exported::acl_valid_filter(text.as_ptr(), text.len()) != 0 }
+    unsafe { exported::mqtt_acl_valid_filter(text.as_ptr(), text.len()) != 0 }
 }
 
 pub(crate) fn tree_match(filter: &[u8], text: &[u8]) -> bool {
     // SAFETY: see the module; the function only reads.
-    unsafe { exported::acl_tree_match(filter.as_ptr(), filter.len(), text.as_ptr(), text.len()) != 0 }
+    unsafe { exported::mqtt_acl_tree_match(filter.as_ptr(), filter.len(), text.as_ptr(), text.len()) != 0 }
 }
 
 pub(crate) fn plain_match(filter: &[u8], text: &[u8]) -> bool {
     // SAFETY: see the module; the function only reads.
-    unsafe { exported::acl_plain_match(filter.as_ptr(), filter.len(), text.as_ptr(), text.len()) != 0 }
+    unsafe { exported::mqtt_acl_plain_match(filter.as_ptr(), filter.len(), text.as_ptr(), text.len()) != 0 }
 }
 
 pub(crate) fn is_document(line: &[u8]) -> bool {
     // SAFETY: see the module; the function only reads.
-    unsafe { exported::acl_is_document(line.as_ptr(), line.len()) != 0 }
+    unsafe { exported::mqtt_acl_is_document(line.as_ptr(), line.len()) != 0 }
 }
 
 pub(crate) fn is_document_within(line: &[u8], most: usize) -> bool {
     // SAFETY: see the module; the function only reads.
-    unsafe { exported::acl_is_document_within(line.as_ptr(), line.len(), most) != 0 }
+    unsafe { exported::mqtt_acl_is_document_within(line.as_ptr(), line.len(), most) != 0 }
 }
 
 pub(crate) fn rule_refusal(line: &[u8]) -> u8 {
     // SAFETY: see the module; the function only reads.
-    unsafe { exported::acl_rule_refusal(line.as_ptr(), line.len()) }
+    unsafe { exported::mqtt_acl_rule_refusal(line.as_ptr(), line.len()) }
 }
 
 pub(crate) fn identity(line: &[u8], who: Client<'_>, protocol: Option<u8>) -> u8 {
@@ -224,7 +224,7 @@ pub(crate) fn identity(line: &[u8], who: Client<'_>, protocol: Option<u8>) -> u8
     let (has_address, address, address_length) = lent(who.address);
     // SAFETY: see the module; the function only reads.
     unsafe {
-        exported::acl_identity(
+        exported::mqtt_acl_identity(
             line.as_ptr(),
             line.len(),
             who.id.as_ptr(),
@@ -249,7 +249,7 @@ pub(crate) fn open(store: &mut [u8], counts: [u64; 4], text: &[u8]) -> u32 {
     let [bytes, filters, eqs, notes] = counts;
     // SAFETY: see the module; the function writes the store and reads the text.
     unsafe {
-        exported::acl_open(
+        exported::mqtt_acl_open(
             store.as_mut_ptr(),
             store.len(),
             bytes,
@@ -266,7 +266,7 @@ pub(crate) fn connected(store: &mut [u8], session: u64, id: &[u8], name: Option<
     let (has_name, name, name_length) = lent(name);
     // SAFETY: see the module; the function writes the store and reads the rest.
     unsafe {
-        exported::acl_connected(
+        exported::mqtt_acl_connected(
             store.as_mut_ptr(),
             store.len(),
             session,
@@ -281,12 +281,14 @@ pub(crate) fn connected(store: &mut [u8], session: u64, id: &[u8], name: Option<
 
 pub(crate) fn disconnected(store: &mut [u8], session: u64, id: &[u8]) -> u8 {
     // SAFETY: see the module; the function writes the store and reads the id.
-    unsafe { exported::acl_disconnected(store.as_mut_ptr(), store.len(), session, id.as_ptr(), id.len()) }
+    unsafe {
+        exported::mqtt_acl_disconnected(store.as_mut_ptr(), store.len(), session, id.as_ptr(), id.len())
+    }
 }
 
 pub(crate) fn ended(store: &mut [u8], session: u64) -> u8 {
     // SAFETY: see the module; the function writes the store.
-    unsafe { exported::acl_ended(store.as_mut_ptr(), store.len(), session) }
+    unsafe { exported::mqtt_acl_ended(store.as_mut_ptr(), store.len(), session) }
 }
 
 pub(crate) fn connect(store: &[u8], earlier: u64, who: Client<'_>, protocol: u8) -> u32 {
@@ -295,7 +297,7 @@ pub(crate) fn connect(store: &[u8], earlier: u64, who: Client<'_>, protocol: u8)
     let (has_address, address, address_length) = lent(who.address);
     // SAFETY: see the module; the function only reads.
     unsafe {
-        exported::acl_connect(
+        exported::mqtt_acl_connect(
             store.as_ptr(),
             store.len(),
             earlier,
@@ -328,7 +330,7 @@ pub(crate) fn subscribe(
     let (has_address, address, address_length) = lent(who.address);
     // SAFETY: see the module; the function only reads.
     unsafe {
-        exported::acl_subscribe(
+        exported::mqtt_acl_subscribe(
             store.as_ptr(),
             store.len(),
             earlier,
@@ -365,7 +367,7 @@ pub(crate) fn publish(
     let (has_address, address, address_length) = lent(who.address);
     // SAFETY: see the module; the function only reads.
     unsafe {
-        exported::acl_publish(
+        exported::mqtt_acl_publish(
             store.as_ptr(),
             store.len(),
             earlier,
@@ -393,7 +395,7 @@ pub(crate) fn client_subscribe(owner: AuthInfo<'_>, qos: u64, topic: &[u8]) -> u
     let (has_name, name, name_length) = lent(owner.name);
     // SAFETY: see the module; the function only reads.
     unsafe {
-        exported::acl_client_subscribe(
+        exported::mqtt_acl_client_subscribe(
             owner.superuser.into(),
             owner.id.as_ptr(),
             owner.id.len(),
@@ -419,7 +421,7 @@ pub(crate) fn client_publish(
     let (has_name, name, name_length) = lent(owner.name);
     // SAFETY: see the module; the function only reads.
     unsafe {
-        exported::acl_client_publish(
+        exported::mqtt_acl_client_publish(
             owner.superuser.into(),
             owner.id.as_ptr(),
             owner.id.len(),
@@ -441,7 +443,7 @@ pub(crate) fn client_publish(
 pub(crate) fn expired(expiry: Option<(u64, u64)>, now: (u64, u64)) -> u64 {
     let (seconds, nanoseconds) = expiry.unwrap_or((0, 0));
     // SAFETY: numbers alone.
-    unsafe { exported::acl_expired(expiry.is_some().into(), seconds, nanoseconds, now.0, now.1) }
+    unsafe { exported::mqtt_acl_expired(expiry.is_some().into(), seconds, nanoseconds, now.0, now.1) }
 }
 
 /// What is read from the number that a question, or expiry, has answered.
@@ -462,15 +464,15 @@ pub(crate) fn parts(answer: u64) -> Parts {
     // SAFETY: numbers alone.
     unsafe {
         Parts {
-            what: exported::acl_answer_what(answer),
-            allows: exported::acl_answer_allows(answer) != 0,
-            rule: exported::acl_answer_rule(answer),
-            code: exported::acl_answer_code(answer),
-            qos: exported::acl_answer_qos(answer),
-            superuser: exported::acl_answer_superuser(answer) != 0,
-            disconnect: exported::acl_answer_disconnect(answer) != 0,
-            refusal: exported::acl_answer_refusal(answer),
-            line: exported::acl_answer_line(answer),
+            what: exported::mqtt_acl_answer_what(answer),
+            allows: exported::mqtt_acl_answer_allows(answer) != 0,
+            rule: exported::mqtt_acl_answer_rule(answer),
+            code: exported::mqtt_acl_answer_code(answer),
+            qos: exported::mqtt_acl_answer_qos(answer),
+            superuser: exported::mqtt_acl_answer_superuser(answer) != 0,
+            disconnect: exported::mqtt_acl_answer_disconnect(answer) != 0,
+            refusal: exported::mqtt_acl_answer_refusal(answer),
+            line: exported::mqtt_acl_answer_line(answer),
         }
     }
 }
@@ -478,7 +480,7 @@ pub(crate) fn parts(answer: u64) -> Parts {
 /// The number and the line of what opening has answered; the number is 0 for done.
 pub(crate) fn open_parts(answer: u32) -> (u8, u32) {
     // SAFETY: numbers alone.
-    unsafe { (exported::acl_open_refusal(answer), exported::acl_open_line(answer)) }
+    unsafe { (exported::mqtt_acl_open_refusal(answer), exported::mqtt_acl_open_line(answer)) }
 }
 
 #[cfg(test)]
@@ -495,20 +497,24 @@ mod tests {
         // SAFETY: a length of 0 lends nothing, whatever the address.
         unsafe {
             assert_eq!(
-                (acl_valid_filter(n, 0), acl_tree_match(n, 0, n, 0), acl_plain_match(n, 0, n, 0)),
+                (
+                    mqtt_acl_valid_filter(n, 0),
+                    mqtt_acl_tree_match(n, 0, n, 0),
+                    mqtt_acl_plain_match(n, 0, n, 0)
+                ),
                 (1, 1, 1)
             );
-            assert_eq!((acl_is_document(n, 0), acl_is_document_within(n, 0, usize::MAX)), (0, 0));
-            assert_eq!(acl_rule_refusal(n, 0), 5);
-            assert_eq!(acl_identity(n, 0, n, 0, 1, n, 0, 1, n, 0, 1, n, 0, 1, 0), 3);
-            assert_eq!(acl_open(m, 0, 1, 1, 1, 1, n, 0), 4);
-            assert_eq!(acl_connected(m, 0, 0, n, 0, 1, n, 0), 3);
-            assert_eq!((acl_disconnected(m, 0, 0, n, 0), acl_ended(m, 0, 0)), (3, 3));
-            assert_eq!(acl_connect(n, 0, 0, n, 0, 1, n, 0, 1, n, 0, 1, n, 0, 0), three);
-            assert_eq!(acl_subscribe(n, 0, 0, n, 0, 1, n, 0, 1, n, 0, 1, n, 0, 1, 0, n, 0, 0), three);
-            assert_eq!(acl_publish(n, 0, 0, n, 0, 1, n, 0, 1, n, 0, 1, n, 0, 1, 0, n, 0, 1), three);
-            assert_eq!(acl_client_subscribe(0, n, 0, 1, n, 0, n, 0, 0, n, 0), 12);
-            assert_eq!(acl_client_publish(1, n, 0, 1, n, 0, n, 0, 0, 1, 1, n, 0), 7);
+            assert_eq!((mqtt_acl_is_document(n, 0), mqtt_acl_is_document_within(n, 0, usize::MAX)), (0, 0));
+            assert_eq!(mqtt_acl_rule_refusal(n, 0), 5);
+            assert_eq!(mqtt_acl_identity(n, 0, n, 0, 1, n, 0, 1, n, 0, 1, n, 0, 1, 0), 3);
+            assert_eq!(mqtt_acl_open(m, 0, 1, 1, 1, 1, n, 0), 4);
+            assert_eq!(mqtt_acl_connected(m, 0, 0, n, 0, 1, n, 0), 3);
+            assert_eq!((mqtt_acl_disconnected(m, 0, 0, n, 0), mqtt_acl_ended(m, 0, 0)), (3, 3));
+            assert_eq!(mqtt_acl_connect(n, 0, 0, n, 0, 1, n, 0, 1, n, 0, 1, n, 0, 0), three);
+            assert_eq!(mqtt_acl_subscribe(n, 0, 0, n, 0, 1, n, 0, 1, n, 0, 1, n, 0, 1, 0, n, 0, 0), three);
+            assert_eq!(mqtt_acl_publish(n, 0, 0, n, 0, 1, n, 0, 1, n, 0, 1, n, 0, 1, 0, n, 0, 1), three);
+            assert_eq!(mqtt_acl_client_subscribe(0, n, 0, 1, n, 0, n, 0, 0, n, 0), 12);
+            assert_eq!(mqtt_acl_client_publish(1, n, 0, 1, n, 0, n, 0, 0, 1, 1, n, 0), 7);
         }
     }
 
@@ -522,18 +528,27 @@ mod tests {
         let (lent, length) = (store.as_mut_ptr(), store.len());
         // SAFETY: as above; the store is lent alone.
         unsafe {
-            assert_eq!(acl_identity(rule.as_ptr(), rule.len(), n, 0, 1, n, 0, 1, n, 0, 1, n, 0, 0, 0), 1);
-            assert_eq!(acl_connect(lent, length, 0, n, 0, 1, n, 0, 1, n, 0, 1, n, 0, 0), 16 + 2);
-            assert_eq!(acl_publish(lent, length, 0, n, 0, 1, n, 0, 1, n, 0, 1, n, 0, 0, 0, n, 0, 0), 9);
-            assert_eq!(acl_connected(lent, length, 0, n, 0, 1, n, 0), 0);
-            assert_eq!(acl_publish(lent, length, 0, n, 0, 1, n, 0, 1, n, 0, 1, n, 0, 0, 0, n, 0, 0), 16 + 7);
             assert_eq!(
-                acl_subscribe(lent, length, 0, n, 0, 1, n, 0, 1, n, 0, 1, n, 0, 0, 0, n, 0, 2),
+                mqtt_acl_identity(rule.as_ptr(), rule.len(), n, 0, 1, n, 0, 1, n, 0, 1, n, 0, 0, 0),
+                1
+            );
+            assert_eq!(mqtt_acl_connect(lent, length, 0, n, 0, 1, n, 0, 1, n, 0, 1, n, 0, 0), 16 + 2);
+            assert_eq!(mqtt_acl_publish(lent, length, 0, n, 0, 1, n, 0, 1, n, 0, 1, n, 0, 0, 0, n, 0, 0), 9);
+            assert_eq!(mqtt_acl_connected(lent, length, 0, n, 0, 1, n, 0), 0);
+            assert_eq!(
+                mqtt_acl_publish(lent, length, 0, n, 0, 1, n, 0, 1, n, 0, 1, n, 0, 0, 0, n, 0, 0),
+                16 + 7
+            );
+            assert_eq!(
+                mqtt_acl_subscribe(lent, length, 0, n, 0, 1, n, 0, 1, n, 0, 1, n, 0, 0, 0, n, 0, 2),
                 16 + 6
             );
-            assert_eq!(acl_disconnected(lent, length, 0, n, 0), 0);
-            assert_eq!(acl_subscribe(lent, length, 0, n, 0, 1, n, 0, 1, n, 0, 1, n, 0, 0, 0, n, 0, 2), 11);
-            assert_eq!(acl_open(lent, length, 256, 1, 1, 1, n, 0), 0);
+            assert_eq!(mqtt_acl_disconnected(lent, length, 0, n, 0), 0);
+            assert_eq!(
+                mqtt_acl_subscribe(lent, length, 0, n, 0, 1, n, 0, 1, n, 0, 1, n, 0, 0, 0, n, 0, 2),
+                11
+            );
+            assert_eq!(mqtt_acl_open(lent, length, 256, 1, 1, 1, n, 0), 0);
         }
     }
 
@@ -551,25 +566,28 @@ mod tests {
             let by = |yes: u32, no: u32| if f != 0 { yes } else { no };
             // SAFETY: each address is of a slice of that length.
             unsafe {
-                assert_eq!(acl_identity(r, rule.len(), x, 1, f, x, 1, f, x, 1, f, x, 1, f, 4), is as u8);
-                assert_eq!(acl_connect(s, k, 0, x, 1, f, x, 1, f, x, 1, f, x, 1, 4), by(16 + 2, 8));
+                assert_eq!(mqtt_acl_identity(r, rule.len(), x, 1, f, x, 1, f, x, 1, f, x, 1, f, 4), is as u8);
+                assert_eq!(mqtt_acl_connect(s, k, 0, x, 1, f, x, 1, f, x, 1, f, x, 1, 4), by(16 + 2, 8));
                 assert_eq!(
-                    acl_subscribe(s, k, 0, x, 1, f, x, 1, f, x, 1, f, x, 1, f, 4, x, 1, 0),
+                    mqtt_acl_subscribe(s, k, 0, x, 1, f, x, 1, f, x, 1, f, x, 1, f, 4, x, 1, 0),
                     by(16 + 4, 11)
                 );
                 assert_eq!(
-                    acl_publish(s, k, 0, x, 1, f, x, 1, f, x, 1, f, x, 1, f, 4, x, 1, f),
+                    mqtt_acl_publish(s, k, 0, x, 1, f, x, 1, f, x, 1, f, x, 1, f, 4, x, 1, f),
                     by(16 + 7, 9)
                 );
-                assert_eq!(acl_publish(s, k, 0, x, 1, 0, x, 1, 0, x, 1, 0, x, 1, 0, 4, x, 1, f), 9 + is);
-                assert_eq!(acl_client_subscribe(f, x, 1, 1, x, 1, o, own.len(), 1, x, 1), by(5, 12).into());
+                assert_eq!(mqtt_acl_publish(s, k, 0, x, 1, 0, x, 1, 0, x, 1, 0, x, 1, 0, 4, x, 1, f), 9 + is);
                 assert_eq!(
-                    acl_client_publish(f, x, 1, 1, x, 1, o, own.len(), 1, 0, 0, x, 1),
+                    mqtt_acl_client_subscribe(f, x, 1, 1, x, 1, o, own.len(), 1, x, 1),
+                    by(5, 12).into()
+                );
+                assert_eq!(
+                    mqtt_acl_client_publish(f, x, 1, 1, x, 1, o, own.len(), 1, 0, 0, x, 1),
                     by(7, 12).into()
                 );
-                let refused = acl_client_publish(0, x, 1, f, x, 1, o, own.len(), 1, f, f, x, 1);
+                let refused = mqtt_acl_client_publish(0, x, 1, f, x, 1, o, own.len(), 1, f, f, x, 1);
                 assert_eq!(refused, by(16 + 10, 16 * (6 + 256)).into());
-                assert_eq!(acl_expired(f, 0, 0, 1, 0), by(14, 13).into());
+                assert_eq!(mqtt_acl_expired(f, 0, 0, 1, 0), by(14, 13).into());
             }
         }
     }

@@ -15,7 +15,7 @@ use Rattle.rule.proofs.DecodeLaws.{written-length}
 use Rattle.store.specs.Opening.{afterOpen}
 use Rattle.questions.specs.Question.{Question}
 use Rattle.questions.specs.Decision.{ask}
-use Rattle.ffi.specs.Answers.{packed}
+use Rattle.mqtt_acl.specs.Answers.{packed}
 use Rattle.vectors.specs.declared.judging.Kind.the-variants.{OnStore}
 use Rattle.vectors.specs.declared.judging.Judged.the-variants.{Malformed}
 use Rattle.vectors.specs.Fields.{rest, field}

@@ -10,7 +10,7 @@ use borrow.Author.Tests.{ne-eqb}
 use Rattle.text.specs.Ascii.{ascii}
 use Rattle.text.specs.Text.{same}
 use Rattle.text.proofs.Laws.{same-lengths}
-use Rattle.ffi.specs.Rules.{flag, yes}
+use Rattle.mqtt_acl.specs.Rules.{flag, yes}
 use Rattle.vectors.specs.declared.judging.Kind.{Kind}
 use Rattle.vectors.specs.declared.judging.Named.{Named}
 use Rattle.vectors.specs.declared.judging.Named.the-variants.{Nothing}

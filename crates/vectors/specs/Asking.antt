@@ -12,7 +12,7 @@ use Rattle.rule.specs.Identity.{Client}
 use Rattle.store.specs.declared.Counts.{Counts}
 use Rattle.store.specs.Opening.{afterOpen}
 use Rattle.questions.specs.Question.{Question, connect, subscribe, publish}
-use Rattle.ffi.specs.Rules.{where-true}
+use Rattle.mqtt_acl.specs.Rules.{where-true}
 use Rattle.vectors.specs.Fields.{field, isGiven, lent, digit}
 
 -- the counts of the store
@@ -52,7 +52,7 @@ subscribeOf line = subscribe (digit 0 (field 4 line)) (clientOf line (protocolOf
 unfoldable pub publishOf : List ℕ → Question
 publishOf line = publish (digit 0 (field 4 line)) (clientOf line (protocolOf line)) (field 10 line) (eqb (digit 0 (field 11 line)) 1)
 
--- the word of what is answered, which is the number below 16 of crates/ffi/specs/Answers.antt; subscribe's allow has its QoS
+-- the word of what is answered, which is the number below 16 of crates/mqtt_acl/specs/Answers.antt; subscribe's allow has its QoS
 unfoldable pub wordOf : ℕ → List ℕ
 wordOf what =
     cond (eqb what 0) (ascii "error")

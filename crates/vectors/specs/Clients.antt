@@ -4,8 +4,8 @@ use mathlib.Core.Bool.{Bool, cond}
 use mathlib.Core.List.{List, [], _∷_}
 use Rattle.text.specs.Text.{same}
 use Rattle.authinfo.specs.Decision.{Client, subscribe, publish, ask}
-use Rattle.ffi.specs.Rules.{where-true}
-use Rattle.ffi.specs.Clients.{packed}
+use Rattle.mqtt_acl.specs.Rules.{where-true}
+use Rattle.mqtt_acl.specs.Clients.{packed}
 use Rattle.vectors.specs.Fields.{rest, field, isGiven, lent, number}
 
 -- who asks: superuser, client id, name

@@ -10,8 +10,8 @@ use Rattle.json.specs.Json.{lineValue}
 use Rattle.json.specs.Access.{isDocument, documentWithin}
 use Rattle.questions.specs.Question.{Question}
 use Rattle.questions.specs.Decision.{ask}
-use Rattle.ffi.specs.Rules.{where-true, refusalOf, identityOf}
-use Rattle.ffi.specs.Answers.{packed}
+use Rattle.mqtt_acl.specs.Rules.{where-true, refusalOf, identityOf}
+use Rattle.mqtt_acl.specs.Answers.{packed}
 use Rattle.vectors.specs.Fields.{rest, field, isGiven, lent, number}
 use Rattle.vectors.specs.Asking.{fits, opened, textIn, connectOf, subscribeOf, publishOf, isWord}
 use Rattle.vectors.specs.Clients.{clientAnswer, isPacked}

@@ -6,7 +6,7 @@ use crate::fields::given_flag;
 use crate::fields::lent;
 use text::Replaced;
 ghost use mathlib.Core.Path.{_≡_};
-ghost use Rattle.ffi.specs.Answers.{packed};
+ghost use Rattle.mqtt_acl.specs.Answers.{packed};
 ghost use Rattle.questions.specs.Decision.{ask};
 ghost use Rattle.vectors.specs.Asking as spec;
 
@@ -24,7 +24,7 @@ pub fn open_rules(rules: &[u8], store: &mut [u8]) -> bool
     let Replaced::Length(n) = text::replace(rules, b"|", b"\n", &mut lines) else {
         return false;
     };
-    ffi::acl_open(store, RULES as u64, 1, 1, 1, &lines[..n]);
+    mqtt_acl::mqtt_acl_open(store, RULES as u64, 1, 1, 1, &lines[..n]);
     true
 }
 
@@ -35,7 +35,7 @@ pub fn connect_answer(line: &[u8], store: &[u8]) -> u32
     let name = field(line, 6);
     let password = field(line, 7);
     let address = field(line, 8);
-    ffi::acl_connect(
+    mqtt_acl::mqtt_acl_connect(
         store,
         digit(field(line, 4), 0) as u64,
         field(line, 5),
@@ -57,7 +57,7 @@ pub fn subscribe_answer(line: &[u8], store: &[u8]) -> u32
     let password = field(line, 7);
     let address = field(line, 8);
     let protocol = field(line, 9);
-    ffi::acl_subscribe(
+    mqtt_acl::mqtt_acl_subscribe(
         store,
         digit(field(line, 4), 0) as u64,
         field(line, 5),
@@ -82,7 +82,7 @@ pub fn publish_answer(line: &[u8], store: &[u8]) -> u32
     let password = field(line, 7);
     let address = field(line, 8);
     let protocol = field(line, 9);
-    ffi::acl_publish(
+    mqtt_acl::mqtt_acl_publish(
         store,
         digit(field(line, 4), 0) as u64,
         field(line, 5),

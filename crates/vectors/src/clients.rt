@@ -13,7 +13,7 @@ fn subscribe_answer(line: &[u8]) -> u64
     ensures { λ r. ⌜ r ≡ spec.subscribeAnswer (now (line .entry)) ⌝ }
 {
     let name = field(line, 8);
-    ffi::clients::acl_client_subscribe(
+    mqtt_acl::clients::mqtt_acl_client_subscribe(
         given_flag(field(line, 2)),
         field(line, 7),
         given_flag(name),
@@ -28,7 +28,7 @@ fn publish_answer(line: &[u8]) -> u64
     ensures { λ r. ⌜ r ≡ spec.publishAnswer (now (line .entry)) ⌝ }
 {
     let name = field(line, 8);
-    ffi::clients::acl_client_publish(
+    mqtt_acl::clients::mqtt_acl_client_publish(
         given_flag(field(line, 2)),
         field(line, 7),
         given_flag(name),

@@ -1,6 +1,6 @@
 // The fields of a recorded line, which have a TAB between them. `judging` reads a line by them.
 ghost use mathlib.Core.Path.{_≡_};
-ghost use Rattle.ffi.specs.Rules.{yes};
+ghost use Rattle.mqtt_acl.specs.Rules.{yes};
 ghost use Rattle.vectors.specs.Fields as spec;
 
 // What stands behind the first `n` TABs of the line; nothing where it has fewer.

@@ -146,7 +146,7 @@ fn is_digit(answer: u32, recorded: &[u8]) -> bool
 fn rule_line(line: &[u8]) -> Judged
     ensures { λ r. ⌜ r ≡ spec.asked (now (line .entry)) Kind.RuleLine ⌝ }
 {
-    let answer = ffi::acl_rule_refusal(rest(line, 2));
+    let answer = mqtt_acl::mqtt_acl_rule_refusal(rest(line, 2));
     verdict(Kind::RuleLine, is_digit(answer as u32, field(line, 1)))
 }
 
@@ -158,7 +158,7 @@ fn identity_line(line: &[u8]) -> Judged
     let password = field(line, 4);
     let address = field(line, 5);
     let protocol = field(line, 6);
-    let answer = ffi::acl_identity(
+    let answer = mqtt_acl::mqtt_acl_identity(
         rest(line, 7),
         field(line, 2),
         given_flag(name),

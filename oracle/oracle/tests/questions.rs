@@ -60,7 +60,7 @@ fn publish() {
     assert_eq!(ask(true, 2, "bo", "a/b"), Reply::Kept(2));
 }
 
-/// As crates/ffi/specs/Answers.antt packs them.
+/// As crates/mqtt_acl/specs/Answers.antt packs them.
 #[test]
 fn numbers() {
     assert_eq!(Reply::Refused(3).number(), 48);

@@ -1,11 +1,11 @@
 //! The exported per-client questions and expiry, safe on slices. Their answers are packed, see
-//! crates/ffi/specs/Clients.antt.
+//! crates/mqtt_acl/specs/Clients.antt.
 
 use crate::Lent;
 
 mod exported {
     extern "C" {
-        pub fn acl_client_subscribe(
+        pub fn mqtt_acl_client_subscribe(
             superuser: u8,
             id: *const u8,
             id_len: usize,
@@ -18,7 +18,7 @@ mod exported {
             topic: *const u8,
             topic_len: usize,
         ) -> u64;
-        pub fn acl_client_publish(
+        pub fn mqtt_acl_client_publish(
             superuser: u8,
             id: *const u8,
             id_len: usize,
@@ -33,7 +33,7 @@ mod exported {
             topic: *const u8,
             topic_len: usize,
         ) -> u64;
-        pub fn acl_expired(
+        pub fn mqtt_acl_expired(
             has_expiry: u8,
             expiry_seconds: u64,
             expiry_nanoseconds: u64,
@@ -55,7 +55,7 @@ pub struct Owner<'a> {
 pub fn subscribe(c: Owner, qos: u64, topic: &[u8]) -> u64 {
     // SAFETY: the function only reads, and only the slices.
     unsafe {
-        exported::acl_client_subscribe(
+        exported::mqtt_acl_client_subscribe(
             c.superuser.into(),
             c.id.as_ptr(),
             c.id.len(),
@@ -74,7 +74,7 @@ pub fn subscribe(c: Owner, qos: u64, topic: &[u8]) -> u64 {
 pub fn publish(c: Owner, qos: u64, retain: bool, disconnect: bool, topic: &[u8]) -> u64 {
     // SAFETY: as above.
     unsafe {
-        exported::acl_client_publish(
+        exported::mqtt_acl_client_publish(
             c.superuser.into(),
             c.id.as_ptr(),
             c.id.len(),
@@ -95,5 +95,5 @@ pub fn publish(c: Owner, qos: u64, retain: bool, disconnect: bool, topic: &[u8])
 /// Seconds and nanoseconds of the expiry, if there is one, and of now.
 pub fn expired(expiry: Lent<(u64, u64)>, now: (u64, u64)) -> u64 {
     // SAFETY: numbers alone.
-    unsafe { exported::acl_expired(expiry.0.into(), expiry.1 .0, expiry.1 .1, now.0, now.1) }
+    unsafe { exported::mqtt_acl_expired(expiry.0.into(), expiry.1 .0, expiry.1 .1, now.0, now.1) }
 }

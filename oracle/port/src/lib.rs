@@ -5,13 +5,23 @@ pub mod clients;
 
 mod exported {
     extern "C" {
-        pub fn acl_valid_filter(s: *const u8, s_len: usize) -> u8;
-        pub fn acl_tree_match(filter: *const u8, filter_len: usize, text: *const u8, text_len: usize) -> u8;
-        pub fn acl_plain_match(filter: *const u8, filter_len: usize, text: *const u8, text_len: usize) -> u8;
-        pub fn acl_is_document(line: *const u8, line_len: usize) -> u8;
-        pub fn acl_is_document_within(line: *const u8, line_len: usize, most: usize) -> u8;
-        pub fn acl_rule_refusal(line: *const u8, line_len: usize) -> u8;
-        pub fn acl_identity(
+        pub fn mqtt_acl_valid_filter(s: *const u8, s_len: usize) -> u8;
+        pub fn mqtt_acl_tree_match(
+            filter: *const u8,
+            filter_len: usize,
+            text: *const u8,
+            text_len: usize,
+        ) -> u8;
+        pub fn mqtt_acl_plain_match(
+            filter: *const u8,
+            filter_len: usize,
+            text: *const u8,
+            text_len: usize,
+        ) -> u8;
+        pub fn mqtt_acl_is_document(line: *const u8, line_len: usize) -> u8;
+        pub fn mqtt_acl_is_document_within(line: *const u8, line_len: usize, most: usize) -> u8;
+        pub fn mqtt_acl_rule_refusal(line: *const u8, line_len: usize) -> u8;
+        pub fn mqtt_acl_identity(
             line: *const u8,
             line_len: usize,
             id: *const u8,
@@ -28,7 +38,7 @@ mod exported {
             has_protocol: u8,
             protocol: u8,
         ) -> u8;
-        pub fn acl_open(
+        pub fn mqtt_acl_open(
             store: *mut u8,
             store_len: usize,
             bytes: u64,
@@ -38,7 +48,7 @@ mod exported {
             text: *const u8,
             text_len: usize,
         ) -> u32;
-        pub fn acl_connected(
+        pub fn mqtt_acl_connected(
             store: *mut u8,
             store_len: usize,
             session: u64,
@@ -48,15 +58,15 @@ mod exported {
             name: *const u8,
             name_len: usize,
         ) -> u8;
-        pub fn acl_disconnected(
+        pub fn mqtt_acl_disconnected(
             store: *mut u8,
             store_len: usize,
             session: u64,
             id: *const u8,
             id_len: usize,
         ) -> u8;
-        pub fn acl_ended(store: *mut u8, store_len: usize, session: u64) -> u8;
-        pub fn acl_connect(
+        pub fn mqtt_acl_ended(store: *mut u8, store_len: usize, session: u64) -> u8;
+        pub fn mqtt_acl_connect(
             store: *const u8,
             store_len: usize,
             earlier: u64,
@@ -73,7 +83,7 @@ mod exported {
             address_len: usize,
             protocol: u8,
         ) -> u32;
-        pub fn acl_subscribe(
+        pub fn mqtt_acl_subscribe(
             store: *const u8,
             store_len: usize,
             earlier: u64,
@@ -94,7 +104,7 @@ mod exported {
             topic_len: usize,
             qos: u64,
         ) -> u32;
-        pub fn acl_publish(
+        pub fn mqtt_acl_publish(
             store: *const u8,
             store_len: usize,
             earlier: u64,
@@ -120,33 +130,33 @@ mod exported {
 
 pub fn valid_filter(s: &[u8]) -> bool {
     // SAFETY: the function only reads, and only the slice.
-    unsafe { exported::acl_valid_filter(s.as_ptr(), s.len()) != 0 }
+    unsafe { exported::mqtt_acl_valid_filter(s.as_ptr(), s.len()) != 0 }
 }
 
 pub fn tree_match(filter: &[u8], text: &[u8]) -> bool {
     // SAFETY: as above, both slices.
-    unsafe { exported::acl_tree_match(filter.as_ptr(), filter.len(), text.as_ptr(), text.len()) != 0 }
+    unsafe { exported::mqtt_acl_tree_match(filter.as_ptr(), filter.len(), text.as_ptr(), text.len()) != 0 }
 }
 
 pub fn plain_match(filter: &[u8], text: &[u8]) -> bool {
     // SAFETY: as above, both slices.
-    unsafe { exported::acl_plain_match(filter.as_ptr(), filter.len(), text.as_ptr(), text.len()) != 0 }
+    unsafe { exported::mqtt_acl_plain_match(filter.as_ptr(), filter.len(), text.as_ptr(), text.len()) != 0 }
 }
 
 pub fn is_document(line: &[u8]) -> bool {
     // SAFETY: as above, the slice.
-    unsafe { exported::acl_is_document(line.as_ptr(), line.len()) != 0 }
+    unsafe { exported::mqtt_acl_is_document(line.as_ptr(), line.len()) != 0 }
 }
 
 pub fn is_document_within(line: &[u8], most: usize) -> bool {
     // SAFETY: as above, the slice.
-    unsafe { exported::acl_is_document_within(line.as_ptr(), line.len(), most) != 0 }
+    unsafe { exported::mqtt_acl_is_document_within(line.as_ptr(), line.len(), most) != 0 }
 }
 
 /// 0 a rule, 1 too long, 5 not the JSON, 6 not a rule.
 pub fn rule_refusal(line: &[u8]) -> u8 {
     // SAFETY: as above.
-    unsafe { exported::acl_rule_refusal(line.as_ptr(), line.len()) }
+    unsafe { exported::mqtt_acl_rule_refusal(line.as_ptr(), line.len()) }
 }
 
 /// A value that may be absent: whether it is given, and what is lent in any case.
@@ -163,7 +173,7 @@ pub fn identity(
 ) -> u8 {
     // SAFETY: as above, all slices.
     unsafe {
-        exported::acl_identity(
+        exported::mqtt_acl_identity(
             line.as_ptr(),
             line.len(),
             id.as_ptr(),
@@ -204,7 +214,7 @@ pub fn open(store: &mut [u8], counts: Counts, text: &[u8]) -> u32 {
     let Counts { bytes, filters, eqs, notes } = counts;
     // SAFETY: the function reads both slices and writes the first.
     unsafe {
-        exported::acl_open(
+        exported::mqtt_acl_open(
             store.as_mut_ptr(),
             store.len(),
             bytes,
@@ -221,7 +231,7 @@ pub fn open(store: &mut [u8], counts: Counts, text: &[u8]) -> u32 {
 pub fn connected(store: &mut [u8], session: u64, id: &[u8], name: Lent<&[u8]>) -> u8 {
     // SAFETY: the function reads the slices and writes the first.
     unsafe {
-        exported::acl_connected(
+        exported::mqtt_acl_connected(
             store.as_mut_ptr(),
             store.len(),
             session,
@@ -236,12 +246,14 @@ pub fn connected(store: &mut [u8], session: u64, id: &[u8], name: Lent<&[u8]>) -
 
 pub fn disconnected(store: &mut [u8], session: u64, id: &[u8]) -> u8 {
     // SAFETY: as above.
-    unsafe { exported::acl_disconnected(store.as_mut_ptr(), store.len(), session, id.as_ptr(), id.len()) }
+    unsafe {
+        exported::mqtt_acl_disconnected(store.as_mut_ptr(), store.len(), session, id.as_ptr(), id.len())
+    }
 }
 
 pub fn ended(store: &mut [u8], session: u64) -> u8 {
     // SAFETY: as above, the slice.
-    unsafe { exported::acl_ended(store.as_mut_ptr(), store.len(), session) }
+    unsafe { exported::mqtt_acl_ended(store.as_mut_ptr(), store.len(), session) }
 }
 
 /// Who asks, by what an earlier answer left.
@@ -256,11 +268,11 @@ pub struct Client<'a> {
     pub protocol: Lent<u8>,
 }
 
-/// The answers of the three questions are packed, see crates/ffi/specs/Answers.antt.
+/// The answers of the three questions are packed, see crates/mqtt_acl/specs/Answers.antt.
 pub fn connect(store: &[u8], c: Client) -> u32 {
     // SAFETY: the function only reads, and only the slices.
     unsafe {
-        exported::acl_connect(
+        exported::mqtt_acl_connect(
             store.as_ptr(),
             store.len(),
             c.earlier,
@@ -283,7 +295,7 @@ pub fn connect(store: &[u8], c: Client) -> u32 {
 pub fn subscribe(store: &[u8], c: Client, topic: &[u8], qos: u64) -> u32 {
     // SAFETY: as above.
     unsafe {
-        exported::acl_subscribe(
+        exported::mqtt_acl_subscribe(
             store.as_ptr(),
             store.len(),
             c.earlier,
@@ -310,7 +322,7 @@ pub fn subscribe(store: &[u8], c: Client, topic: &[u8], qos: u64) -> u32 {
 pub fn publish(store: &[u8], c: Client, topic: &[u8], disconnect: bool) -> u32 {
     // SAFETY: as above.
     unsafe {
-        exported::acl_publish(
+        exported::mqtt_acl_publish(
             store.as_ptr(),
             store.len(),
             c.earlier,

@@ -68,7 +68,7 @@ pub enum Reply {
 }
 
 impl Reply {
-    /// As the port packs it: crates/ffi/specs/Clients.antt.
+    /// As the port packs it: crates/mqtt_acl/specs/Clients.antt.
     pub fn number(self) -> u64 {
         let (value, what) = match self {
             Reply::Refused { number, line, .. } => (number as usize + 256 * line, 0),

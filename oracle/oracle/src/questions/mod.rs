@@ -87,7 +87,7 @@ pub enum Reply {
 }
 
 impl Reply {
-    /// As the port packs it: crates/ffi/specs/Answers.antt.
+    /// As the port packs it: crates/mqtt_acl/specs/Answers.antt.
     pub fn number(self) -> u32 {
         let (value, what) = match self {
             Reply::Refused(number) => (number as usize, 0),

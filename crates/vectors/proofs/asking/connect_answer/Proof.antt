@@ -20,8 +20,8 @@ field-requires-4 c κs = search needs
 digit-requires : tie.Need-digit-requires
 digit-requires c κs = search needs
 
-cast-acl-connect : tie.Need-cast-acl-connect
-cast-acl-connect c = search needs
+cast-mqtt-acl-connect : tie.Need-cast-mqtt-acl-connect
+cast-mqtt-acl-connect c = search needs
 
 field-requires-5 : tie.Need-field-requires-5
 field-requires-5 c κs = search needs
@@ -50,15 +50,15 @@ field-requires-6 c κs = search needs
 digit-requires-2 : tie.Need-digit-requires-2
 digit-requires-2 c κs = search needs
 
-acl-connect-requires : tie.Need-acl-connect-requires
-acl-connect-requires c κs = search needs
+mqtt-acl-connect-requires : tie.Need-mqtt-acl-connect-requires
+mqtt-acl-connect-requires c κs = search needs
 
 returns : tie.Need-returns
 unfolding textIn clientOf connectOf
 returns c =
     let r = c .before .before .before .before .before in
     let s = r .before .before .before .before .before in
-    rw (c .acl-connect .ensures, c .before .digit2 .ensures, c .before .before .field6 .ensures, c .before .before .before .lent3 .ensures, flag-back (c .before .before .before .before .given-flag3 .ensures))
+    rw (c .mqtt-acl-connect .ensures, c .before .digit2 .ensures, c .before .before .field6 .ensures, c .before .before .before .lent3 .ensures, flag-back (c .before .before .before .before .given-flag3 .ensures))
     (rw (r .lent2 .ensures, flag-back (r .before .given-flag2 .ensures), r .before .before .lent .ensures, flag-back (r .before .before .before .given-flag .ensures), r .before .before .before .before .field5 .ensures)
     (rw (s .digit .ensures, s .before .field4 .ensures, s .before .before .field3 .ensures, s .before .before .before .field2 .ensures, s .before .before .before .before .field .ensures)))
 
@@ -71,7 +71,7 @@ connect-answer-spec =
     field-requires-3
     field-requires-4
     digit-requires
-    cast-acl-connect
+    cast-mqtt-acl-connect
     field-requires-5
     given-flag-requires
     lent-requires
@@ -81,5 +81,5 @@ connect-answer-spec =
     lent-requires-3
     field-requires-6
     digit-requires-2
-    acl-connect-requires
+    mqtt-acl-connect-requires
     returns)

@@ -39,15 +39,15 @@ array-share-prefix-lines c =
     let a = r .before .before .before .before .before .before .args in
     rules-room (now (a .rules)) (r .replace .ensures .0) _ (r .replace .ensures .1) (c .before .before .n .given .1)
 
-slice-aggregate-acl-open : tie.Need-slice-aggregate-acl-open
+slice-aggregate-mqtt-acl-open : tie.Need-slice-aggregate-mqtt-acl-open
 unfolding ruleText
-slice-aggregate-acl-open c =
+slice-aggregate-mqtt-acl-open c =
     let r = c .before .before .before .before .before .before in
     let a = r .before .before .before .before .before .before .args in
     sym (length-take-le (c .before .before .before .n .given .0 .0) _ (rules-room (now (a .rules)) (r .replace .ensures .0) _ (r .replace .ensures .1) (c .before .before .before .n .given .1)))
 
-acl-open-requires : tie.Need-acl-open-requires
-acl-open-requires c κs = search needs
+mqtt-acl-open-requires : tie.Need-mqtt-acl-open-requires
+mqtt-acl-open-requires c κs = search needs
 
 same-length : tie.Need-same-length
 same-length c = search needs
@@ -57,7 +57,7 @@ unfolding ruleText
 returns-2 c =
     let r = c .before .before .before .before .before .before .before .before .before in
     let a = r .before .before .before .before .before .before .args in
-    rules-opened (now (a .rules)) (r .replace .ensures .0) _ (r .replace .ensures .1) (c .before .before .before .before .before .before .n .given .1) (now (a .store)) (c .before .before .acl-open .ensures .1)
+    rules-opened (now (a .rules)) (r .replace .ensures .0) _ (r .replace .ensures .1) (c .before .before .before .before .before .before .n .given .1) (now (a .store)) (c .before .before .mqtt-acl-open .ensures .1)
 
 pub open-rules-spec : {M : Type 1} → statement M
 open-rules-spec =
@@ -71,7 +71,7 @@ open-rules-spec =
     enum-told
     returns
     array-share-prefix-lines
-    slice-aggregate-acl-open
-    acl-open-requires
+    slice-aggregate-mqtt-acl-open
+    mqtt-acl-open-requires
     same-length
     returns-2)

@@ -23,8 +23,8 @@ field-requires-5 c κs = search needs
 digit-requires : tie.Need-digit-requires
 digit-requires c κs = search needs
 
-cast-acl-publish : tie.Need-cast-acl-publish
-cast-acl-publish c = search needs
+cast-mqtt-acl-publish : tie.Need-cast-mqtt-acl-publish
+cast-mqtt-acl-publish c = search needs
 
 field-requires-6 : tie.Need-field-requires-6
 field-requires-6 c κs = search needs
@@ -65,8 +65,8 @@ digit-requires-3 c κs = search needs
 flag-requires : tie.Need-flag-requires
 flag-requires c κs = search needs
 
-acl-publish-requires : tie.Need-acl-publish-requires
-acl-publish-requires c κs = search needs
+mqtt-acl-publish-requires : tie.Need-mqtt-acl-publish-requires
+mqtt-acl-publish-requires c κs = search needs
 
 returns : tie.Need-returns
 unfolding textIn clientOf protocolOf publishOf
@@ -75,7 +75,7 @@ returns c =
     let r = d .before .before .before .before in
     let s = r .before .before .before .before .before in
     let p = s .before .before .before .before .before in
-    rw (c .acl-publish .ensures, flag-back (c .before .flag .ensures), d .digit3 .ensures, d .before .field8 .ensures, d .before .before .field7 .ensures, d .before .before .before .digit2 .ensures)
+    rw (c .mqtt-acl-publish .ensures, flag-back (c .before .flag .ensures), d .digit3 .ensures, d .before .field8 .ensures, d .before .before .field7 .ensures, d .before .before .before .digit2 .ensures)
     (rw (flag-back (r .given-flag4 .ensures), r .before .lent3 .ensures, flag-back (r .before .before .given-flag3 .ensures), r .before .before .before .lent2 .ensures, flag-back (r .before .before .before .before .given-flag2 .ensures))
     (rw (s .lent .ensures, flag-back (s .before .given-flag .ensures), s .before .before .field6 .ensures, s .before .before .before .digit .ensures, s .before .before .before .before .field5 .ensures)
     (rw (p .field4 .ensures, p .before .field3 .ensures, p .before .before .field2 .ensures, p .before .before .before .field .ensures))))
@@ -90,7 +90,7 @@ publish-answer-spec =
     field-requires-4
     field-requires-5
     digit-requires
-    cast-acl-publish
+    cast-mqtt-acl-publish
     field-requires-6
     given-flag-requires
     lent-requires
@@ -104,5 +104,5 @@ publish-answer-spec =
     field-requires-8
     digit-requires-3
     flag-requires
-    acl-publish-requires
+    mqtt-acl-publish-requires
     returns)

@@ -23,8 +23,8 @@ field-requires-5 c κs = search needs
 digit-requires : tie.Need-digit-requires
 digit-requires c κs = search needs
 
-cast-acl-subscribe : tie.Need-cast-acl-subscribe
-cast-acl-subscribe c = search needs
+cast-mqtt-acl-subscribe : tie.Need-cast-mqtt-acl-subscribe
+cast-mqtt-acl-subscribe c = search needs
 
 field-requires-6 : tie.Need-field-requires-6
 field-requires-6 c κs = search needs
@@ -62,11 +62,11 @@ field-requires-8 c κs = search needs
 digit-requires-3 : tie.Need-digit-requires-3
 digit-requires-3 c κs = search needs
 
-cast-acl-subscribe-2 : tie.Need-cast-acl-subscribe-2
-cast-acl-subscribe-2 c = search needs
+cast-mqtt-acl-subscribe-2 : tie.Need-cast-mqtt-acl-subscribe-2
+cast-mqtt-acl-subscribe-2 c = search needs
 
-acl-subscribe-requires : tie.Need-acl-subscribe-requires
-acl-subscribe-requires c κs = search needs
+mqtt-acl-subscribe-requires : tie.Need-mqtt-acl-subscribe-requires
+mqtt-acl-subscribe-requires c κs = search needs
 
 returns : tie.Need-returns
 unfolding textIn clientOf protocolOf subscribeOf
@@ -74,7 +74,7 @@ returns c =
     let r = c .before .before .before .before .before in
     let s = r .before .before .before .before .before in
     let p = s .before .before .before .before .before in
-    rw (c .acl-subscribe .ensures, c .before .digit3 .ensures, c .before .before .field8 .ensures, c .before .before .before .field7 .ensures, c .before .before .before .before .digit2 .ensures)
+    rw (c .mqtt-acl-subscribe .ensures, c .before .digit3 .ensures, c .before .before .field8 .ensures, c .before .before .before .field7 .ensures, c .before .before .before .before .digit2 .ensures)
     (rw (flag-back (r .given-flag4 .ensures), r .before .lent3 .ensures, flag-back (r .before .before .given-flag3 .ensures), r .before .before .before .lent2 .ensures, flag-back (r .before .before .before .before .given-flag2 .ensures))
     (rw (s .lent .ensures, flag-back (s .before .given-flag .ensures), s .before .before .field6 .ensures, s .before .before .before .digit .ensures, s .before .before .before .before .field5 .ensures)
     (rw (p .field4 .ensures, p .before .field3 .ensures, p .before .before .field2 .ensures, p .before .before .before .field .ensures))))
@@ -89,7 +89,7 @@ subscribe-answer-spec =
     field-requires-4
     field-requires-5
     digit-requires
-    cast-acl-subscribe
+    cast-mqtt-acl-subscribe
     field-requires-6
     given-flag-requires
     lent-requires
@@ -102,6 +102,6 @@ subscribe-answer-spec =
     field-requires-7
     field-requires-8
     digit-requires-3
-    cast-acl-subscribe-2
-    acl-subscribe-requires
+    cast-mqtt-acl-subscribe-2
+    mqtt-acl-subscribe-requires
     returns)

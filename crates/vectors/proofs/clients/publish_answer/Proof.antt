@@ -32,8 +32,8 @@ field-requires-4 c κs = search needs
 number-requires : tie.Need-number-requires
 number-requires c κs = search needs
 
-cast-acl-client-publish : tie.Need-cast-acl-client-publish
-cast-acl-client-publish c = search needs
+cast-mqtt-acl-client-publish : tie.Need-cast-mqtt-acl-client-publish
+cast-mqtt-acl-client-publish c = search needs
 
 field-requires-5 : tie.Need-field-requires-5
 field-requires-5 c κs = search needs
@@ -50,13 +50,13 @@ given-flag-requires-4 c κs = search needs
 field-requires-7 : tie.Need-field-requires-7
 field-requires-7 c κs = search needs
 
-acl-client-publish-requires : tie.Need-acl-client-publish-requires
-acl-client-publish-requires c κs = search needs
+mqtt-acl-client-publish-requires : tie.Need-mqtt-acl-client-publish-requires
+mqtt-acl-client-publish-requires c κs = search needs
 
 returns : tie.Need-returns
 unfolding publishAnswer clientIn
 returns c =
-    rw (c .acl-client-publish .ensures, c .before .field7 .ensures, flag-back (c .before .before .given-flag4 .ensures), c .before .before .before .field6 .ensures)
+    rw (c .mqtt-acl-client-publish .ensures, c .before .field7 .ensures, flag-back (c .before .before .given-flag4 .ensures), c .before .before .before .field6 .ensures)
     (rw (flag-back (c .before .before .before .before .given-flag3 .ensures), c .before .before .before .before .before .field5 .ensures, c .before .before .before .before .before .before .number .ensures, c .before .before .before .before .before .before .before .field4 .ensures)
     (rw (c .before .before .before .before .before .before .before .before .rest .ensures, c .before .before .before .before .before .before .before .before .before .lent .ensures, flag-back (c .before .before .before .before .before .before .before .before .before .before .given-flag2 .ensures), c .before .before .before .before .before .before .before .before .before .before .before .field3 .ensures)
     (rw (flag-back (c .before .before .before .before .before .before .before .before .before .before .before .before .given-flag .ensures), c .before .before .before .before .before .before .before .before .before .before .before .before .before .field2 .ensures, c .before .before .before .before .before .before .before .before .before .before .before .before .before .before .field .ensures))))
@@ -74,11 +74,11 @@ publish-answer-spec =
     rest-requires
     field-requires-4
     number-requires
-    cast-acl-client-publish
+    cast-mqtt-acl-client-publish
     field-requires-5
     given-flag-requires-3
     field-requires-6
     given-flag-requires-4
     field-requires-7
-    acl-client-publish-requires
+    mqtt-acl-client-publish-requires
     returns)

@@ -32,19 +32,19 @@ field-requires-4 c κs = search needs
 number-requires : tie.Need-number-requires
 number-requires c κs = search needs
 
-cast-acl-client-subscribe : tie.Need-cast-acl-client-subscribe
-cast-acl-client-subscribe c = search needs
+cast-mqtt-acl-client-subscribe : tie.Need-cast-mqtt-acl-client-subscribe
+cast-mqtt-acl-client-subscribe c = search needs
 
 field-requires-5 : tie.Need-field-requires-5
 field-requires-5 c κs = search needs
 
-acl-client-subscribe-requires : tie.Need-acl-client-subscribe-requires
-acl-client-subscribe-requires c κs = search needs
+mqtt-acl-client-subscribe-requires : tie.Need-mqtt-acl-client-subscribe-requires
+mqtt-acl-client-subscribe-requires c κs = search needs
 
 returns : tie.Need-returns
 unfolding subscribeAnswer clientIn
 returns c =
-    rw (c .acl-client-subscribe .ensures, c .before .field5 .ensures, c .before .before .number .ensures, c .before .before .before .field4 .ensures)
+    rw (c .mqtt-acl-client-subscribe .ensures, c .before .field5 .ensures, c .before .before .number .ensures, c .before .before .before .field4 .ensures)
     (rw (c .before .before .before .before .rest .ensures, c .before .before .before .before .before .lent .ensures, flag-back (c .before .before .before .before .before .before .given-flag2 .ensures), c .before .before .before .before .before .before .before .field3 .ensures)
     (rw (flag-back (c .before .before .before .before .before .before .before .before .given-flag .ensures), c .before .before .before .before .before .before .before .before .before .field2 .ensures, c .before .before .before .before .before .before .before .before .before .before .field .ensures)))
 
@@ -61,7 +61,7 @@ subscribe-answer-spec =
     rest-requires
     field-requires-4
     number-requires
-    cast-acl-client-subscribe
+    cast-mqtt-acl-client-subscribe
     field-requires-5
-    acl-client-subscribe-requires
+    mqtt-acl-client-subscribe-requires
     returns)

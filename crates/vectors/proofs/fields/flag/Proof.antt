@@ -1,5 +1,5 @@
 -- The test decides. Assumes nothing.
-use Rattle.ffi.specs.Rules.{yes}
+use Rattle.mqtt_acl.specs.Rules.{yes}
 use Rattle.vectors.proofs.fields.flag.Statement.{statement}
 use Rattle.vectors.proofs.fields.flag.Tie as tie
 

@@ -1,7 +1,7 @@
 -- The flag is that of the test. Assumes nothing.
 use mathlib.Core.Path.{ap, _∙_}
 use borrow.Author.Needs.{needs}
-use Rattle.ffi.specs.Rules.{yes}
+use Rattle.mqtt_acl.specs.Rules.{yes}
 use Rattle.vectors.proofs.fields.given_flag.Statement.{statement}
 use Rattle.vectors.proofs.fields.given_flag.Tie as tie
 

@@ -48,8 +48,8 @@ given-flag-requires-4 c κs = search needs
 number-requires : tie.Need-number-requires
 number-requires c κs = search needs
 
-acl-identity-requires : tie.Need-acl-identity-requires
-acl-identity-requires c κs = search needs
+mqtt-acl-identity-requires : tie.Need-mqtt-acl-identity-requires
+mqtt-acl-identity-requires c κs = search needs
 
 cast-is-digit : tie.Need-cast-is-digit
 cast-is-digit c = search needs
@@ -72,7 +72,7 @@ returns c =
     let n = p .before .before in
     let r = n .before .before in
     let f = r .before .before in
-    rw (c .verdict .ensures, c .before .is-digit .ensures, c .before .before .field6 .ensures, i .acl-identity .ensures)
+    rw (c .verdict .ensures, c .before .is-digit .ensures, c .before .before .field6 .ensures, i .mqtt-acl-identity .ensures)
     (rw (i .before .number .ensures, flag-back (i .before .before .given-flag4 .ensures), a .lent3 .ensures, flag-back (a .before .given-flag3 .ensures))
     (rw (p .lent2 .ensures, flag-back (p .before .given-flag2 .ensures), n .lent .ensures, flag-back (n .before .given-flag .ensures))
     (rw (r .field5 .ensures, r .before .rest .ensures, f .field4 .ensures, f .before .field3 .ensures, f .before .before .field2 .ensures, f .before .before .before .field .ensures))))
@@ -95,7 +95,7 @@ identity-line-spec =
     lent-requires-3
     given-flag-requires-4
     number-requires
-    acl-identity-requires
+    mqtt-acl-identity-requires
     cast-is-digit
     field-requires-6
     is-digit-requires

@@ -1,6 +1,6 @@
 -- The answer to the line's question, against the recorded one. Assumes nothing.
 use mathlib.Core.Path.{ap, ap₂, _∙_}
-use Rattle.ffi.specs.Rules.{refusalOf}
+use Rattle.mqtt_acl.specs.Rules.{refusalOf}
 use Rattle.vectors.specs.declared.judging.Kind.the-variants.{RuleLine}
 use Rattle.vectors.specs.Judging.{verdict, isDigit, asked}
 use borrow.Author.Needs.{needs}
@@ -10,8 +10,8 @@ use Rattle.vectors.proofs.judging.rule_line.Tie as tie
 rest-requires : tie.Need-rest-requires
 rest-requires c κs = search needs
 
-acl-rule-refusal-requires : tie.Need-acl-rule-refusal-requires
-acl-rule-refusal-requires c κs = search needs
+mqtt-acl-rule-refusal-requires : tie.Need-mqtt-acl-rule-refusal-requires
+mqtt-acl-rule-refusal-requires c κs = search needs
 
 cast-is-digit : tie.Need-cast-is-digit
 cast-is-digit c = search needs
@@ -31,9 +31,9 @@ returns c =
     c .verdict .ensures
     ∙ ap (verdict RuleLine)
     (c .before .is-digit .ensures
-    ∙ ap₂ isDigit (c .before .before .before .acl-rule-refusal .ensures ∙ ap refusalOf (c .before .before .before .before .rest .ensures)) (c .before .before .field .ensures))
+    ∙ ap₂ isDigit (c .before .before .before .mqtt-acl-rule-refusal .ensures ∙ ap refusalOf (c .before .before .before .before .rest .ensures)) (c .before .before .field .ensures))
 
 pub rule-line-spec : {M : Type 1} → statement M
 rule-line-spec =
     tie.close
-    (tie.spec rest-requires acl-rule-refusal-requires cast-is-digit field-requires is-digit-requires verdict-requires returns)
+    (tie.spec rest-requires mqtt-acl-rule-refusal-requires cast-is-digit field-requires is-digit-requires verdict-requires returns)

@@ -1,0 +1,21 @@
+-- The answer is the event's. Assumes nothing.
+use mathlib.Core.Path.{ap, _∙_}
+use Rattle.mqtt_acl.specs.Answers.{eventNumber}
+use borrow.Author.Needs.{needs}
+use Rattle.mqtt_acl.proofs.mqtt_acl_ended.Statement.{statement}
+use Rattle.mqtt_acl.proofs.mqtt_acl_ended.Tie as tie
+
+ended-requires : tie.Need-ended-requires
+ended-requires c κs = search needs
+
+event-number-requires : tie.Need-event-number-requires
+event-number-requires c κs = search needs
+
+same-length : tie.Need-same-length
+same-length c = search needs
+
+returns : tie.Need-returns
+returns c = (c .event-number .ensures ∙ ap eventNumber (c .before .before .before .ended .ensures .0), c .before .before .before .ended .ensures .1)
+
+pub mqtt-acl-ended-spec : {M : Type 1} → statement M
+mqtt-acl-ended-spec = tie.close (tie.spec ended-requires event-number-requires same-length returns)

@@ -1,0 +1,357 @@
+/* Access rules of an MQTT broker, for C: the functions of target/staticlib/libmqtt_acl.a (`rt staticlib mqtt_acl`, x86-64).
+
+   What the functions answer is proved for any bytes and any numbers (crates/mqtt_acl); this header is tested, not proved. Its sentences
+   are those of the specification, document 01: T is the plugin's tree match, P the per-client rules' plain match.
+
+   Memory. All of it is the caller's. A text, and a store, crosses as its address and its length in bytes, without a zero byte at the
+   end. Nothing is kept after a call: no heap, no state between calls, no threads. A text is only read; a store is written by mqtt_acl_open
+   and by the three events, and by nothing else. Calls that only read a store may run at the same time; one that writes it runs alone.
+
+   What the caller owes, since no proof reaches it:
+   - an address from which as many bytes as the length says can be read (a store for mqtt_acl_open and events: written). The length is at
+     most PTRDIFF_MAX. Where it is 0 nothing is read, and the address may be any, NULL too;
+   - nothing else that is lent overlaps the store that mqtt_acl_open or an event writes. Texts may overlap one another, and in a question
+     a text may lie in the store.
+   Nothing else is owed: a text may hold any bytes, a number be any of its type.
+
+   A flag is a uint8_t: 0 is false, every other value true. An answer that is yes or no is 1 or 0.
+
+   An optional text is a flag, an address and a length; an optional number a flag and the number. It counts where the flag is true;
+   where it is false it is not looked at, and NULL and 0 will do.
+
+   Refusals by number, each the first cause in document 01's order; all lent memory is then unchanged. See mqtt_acl_refusal below. */
+#ifndef MQTT_ACL_H
+#define MQTT_ACL_H
+
+#include <stddef.h>
+#include <stdint.h>
+#include <string.h>
+
+#ifdef __cplusplus
+extern "C" {
+#endif
+
+/* The numbers of document 01, "Refusals by operation". */
+enum mqtt_acl_refusal {
+    MQTT_ACL_TOO_LONG = 1,        /* a text over its length, a rule text over its lines, an array of topics over 64 */
+    MQTT_ACL_OUT_OF_RANGE = 2,    /* session over 255; earlier code over 4 (connect) or 2; QoS over 2; nanoseconds over 999,999,999 */
+    MQTT_ACL_MALFORMED = 3,       /* the store is not as laid out */
+    MQTT_ACL_COUNTS = 4,          /* a count out of range, or the store's length is not the formula's */
+    MQTT_ACL_NOT_JSON = 5,        /* a line that is not document 01's JSON */
+    MQTT_ACL_NOT_A_RULE = 6,      /* a line that is not a rule */
+    MQTT_ACL_FILLED_TOO_LONG = 7, /* a text over 256 bytes once filled */
+    MQTT_ACL_FILTERS_FULL = 8,    /* new filter rows exceed those free */
+    MQTT_ACL_EQS_FULL = 9,        /* new eq rows exceed those free */
+    MQTT_ACL_NOTES_FULL = 10      /* new note rows exceed those free */
+};
+
+/* ---- Filters and matching ---- */
+
+/* Is the text a valid filter? `+` and `#` only as whole levels, `#` only as the last; the empty text is valid.
+   1 or 0. Reads the text. */
+uint8_t mqtt_acl_valid_filter(const uint8_t *text, size_t text_length);
+
+/* Tree match T, the plugin's: does the filter take the checked text? 1 or 0. Reads both. */
+uint8_t mqtt_acl_tree_match(const uint8_t *filter, size_t filter_length, const uint8_t *text, size_t text_length);
+
+/* Plain match P, the per-client rules': does the filter take the checked text? 1 or 0. Reads both. */
+uint8_t mqtt_acl_plain_match(const uint8_t *filter, size_t filter_length, const uint8_t *text, size_t text_length);
+
+/* ---- One line: a JSON document, a plugin rule ---- */
+
+/* Is the line, without its LF, one of document 01's JSON documents? 1 or 0. Reads the line. */
+uint8_t mqtt_acl_is_document(const uint8_t *line, size_t line_length);
+
+/* And one whose decoded strings, member names included, have at most this many bytes? 1 or 0. Reads the line. */
+uint8_t mqtt_acl_is_document_within(const uint8_t *line, size_t line_length, size_t most);
+
+/* 0 for a rule, else the number by which the line is refused: 1, 5 or 6. Reads the line. */
+uint8_t mqtt_acl_rule_refusal(const uint8_t *line, size_t line_length);
+
+/* Do the users that the line's rule lists agree with the client? The values of mqtt_acl_identity_answer. Reads the line and the texts. */
+uint8_t mqtt_acl_identity(const uint8_t *line, size_t line_length, const uint8_t *id, size_t id_length, uint8_t has_name, const uint8_t *name,
+                     size_t name_length, uint8_t has_password, const uint8_t *password, size_t password_length, uint8_t has_address,
+                     const uint8_t *address, size_t address_length, uint8_t has_protocol, uint8_t protocol);
+
+enum mqtt_acl_identity_answer {
+    MQTT_ACL_DIFFERS = 0,
+    MQTT_ACL_AGREES = 1,
+    MQTT_ACL_AGREES_SUPERUSER = 2, /* with the superuser flag */
+    MQTT_ACL_NO_RULE = 3           /* the line is no rule */
+};
+
+/* ---- A store ---- */
+
+/* Opens a store for a rule text: R is `bytes` (1 to 32,768), F, E and N are `filters`, `eqs` and `notes` (1 to 4,096), and the store's
+   length must be 16 + R + 326F + 260E + 260N (mqtt_acl_store_length). What the bytes were doesn't matter. Writes every byte of the store:
+   the counts, the text, no used row. Answers 0, or the number plus 256 times the line (mqtt_acl_open_refusal, mqtt_acl_open_line): 4; 1 text over
+   R, line 0, or over 256 lines, line 257; then the first faulty line's 1, 5 or 6, lines from 1. At most 66,047. Reads the text. */
+uint32_t mqtt_acl_open(uint8_t *store, size_t store_length, uint64_t bytes, uint64_t filters, uint64_t eqs, uint64_t notes,
+                  const uint8_t *text, size_t text_length);
+
+/* Event: a client has connected. Fills the templates of the rules and adds filter, eq and note rows. Answers 0 done, else the number: 1
+   id or name over 64 bytes; 2 session over 255; 3; 7; 8, 9, 10. Reads id and name, reads and writes the store. */
+uint8_t mqtt_acl_connected(uint8_t *store, size_t store_length, uint64_t session, const uint8_t *id, size_t id_length, uint8_t has_name,
+                      const uint8_t *name, size_t name_length);
+
+/* Event: a client has disconnected. For each note of the session that is a valid filter, the client's filter rows that T-match it go;
+   the notes stay. Answers 0 done, else the number: 1 id over 64 bytes; 2; 3. Reads the id, reads and writes the store. */
+uint8_t mqtt_acl_disconnected(uint8_t *store, size_t store_length, uint64_t session, const uint8_t *id, size_t id_length);
+
+/* Event: a session has ended. Drops its notes. Answers 0 done, else the number: 2, 3. Reads and writes the store. */
+uint8_t mqtt_acl_ended(uint8_t *store, size_t store_length, uint64_t session);
+
+/* The three questions on a store only read. `earlier` is the code of an earlier answer: 0 none; connect 1 allow, 2 not found, 3 bad
+   name or password, 4 not authorized; subscribe and publish 1 allow, 2 rejected. Connect's 3 and 4 and the others' 2 are kept.
+   The answer is 16 times the rule, from 1, or 0 where no rule decides, plus the value of mqtt_acl_what; for a kept code 16 times the code,
+   plus 1; for a refusal 16 times its number. Refused by 1: id or name over 64 bytes, password over 128, address over 45, topic over
+   256; 2: the code, or the QoS; 3. At most 4,111. */
+
+/* May the client connect? MQTT_ACL_KEPT, MQTT_ACL_CONNECT_ALLOWED, MQTT_ACL_CONNECT_SUPERUSER, MQTT_ACL_NOT_AUTHORIZED or MQTT_ACL_REFUSED. Reads the
+   store and the texts, as the next two. */
+uint32_t mqtt_acl_connect(const uint8_t *store, size_t store_length, uint64_t earlier, const uint8_t *id, size_t id_length, uint8_t has_name,
+                     const uint8_t *name, size_t name_length, uint8_t has_password, const uint8_t *password, size_t password_length,
+                     uint8_t has_address, const uint8_t *address, size_t address_length, uint8_t protocol);
+
+/* May the client subscribe to the topic? MQTT_ACL_KEPT, MQTT_ACL_SUBSCRIBE_QOS0 to QOS2 (the asked QoS), MQTT_ACL_UNSPECIFIED_ERROR or MQTT_ACL_REFUSED. */
+uint32_t mqtt_acl_subscribe(const uint8_t *store, size_t store_length, uint64_t earlier, const uint8_t *id, size_t id_length, uint8_t has_name,
+                       const uint8_t *name, size_t name_length, uint8_t has_password, const uint8_t *password, size_t password_length,
+                       uint8_t has_address, const uint8_t *address, size_t address_length, uint8_t has_protocol, uint8_t protocol,
+                       const uint8_t *topic, size_t topic_length, uint64_t qos);
+
+/* May the client publish to the topic? MQTT_ACL_KEPT, MQTT_ACL_PUBLISH_ALLOWED, MQTT_ACL_PUBLISH_REFUSED, with the caller's disconnect flag
+   MQTT_ACL_PUBLISH_DROPPED, or MQTT_ACL_REFUSED. */
+uint32_t mqtt_acl_publish(const uint8_t *store, size_t store_length, uint64_t earlier, const uint8_t *id, size_t id_length, uint8_t has_name,
+                     const uint8_t *name, size_t name_length, uint8_t has_password, const uint8_t *password, size_t password_length,
+                     uint8_t has_address, const uint8_t *address, size_t address_length, uint8_t has_protocol, uint8_t protocol,
+                     const uint8_t *topic, size_t topic_length, uint8_t disconnect);
+
+/* ---- The rules that came with a client's credentials ---- */
+
+/* Per-client questions: `rules` is a text of at most 32,768 bytes and 256 lines, each an object. The answer is 16 times the rule, from
+   1, or 0 for a superuser, plus the value of mqtt_acl_what; 12 alone where no rule hits; for a refusal 16 times its number and 4,096 times
+   its line: 1 id or name over 64 bytes, topic over 256, text too long, line 0, or over 256 lines, line 257; 2 QoS over 2, line 0; then
+   the first faulty line's 1, 5, 6 or 7. At most 1,052,832. */
+
+/* May the client subscribe to the topic, by its rules? MQTT_ACL_SUBSCRIBE_QOS0 to QOS2, MQTT_ACL_NOT_AUTHORIZED, MQTT_ACL_NO_DECISION or MQTT_ACL_REFUSED.
+   Reads the texts. */
+uint64_t mqtt_acl_client_subscribe(uint8_t superuser, const uint8_t *id, size_t id_length, uint8_t has_name, const uint8_t *name,
+                              size_t name_length, const uint8_t *rules, size_t rules_length, uint64_t qos, const uint8_t *topic,
+                              size_t topic_length);
+
+/* May the client publish to the topic, by its rules? MQTT_ACL_PUBLISH_ALLOWED, MQTT_ACL_PUBLISH_REFUSED, MQTT_ACL_PUBLISH_DROPPED, MQTT_ACL_NO_DECISION or
+   MQTT_ACL_REFUSED. Reads the texts. */
+uint64_t mqtt_acl_client_publish(uint8_t superuser, const uint8_t *id, size_t id_length, uint8_t has_name, const uint8_t *name,
+                            size_t name_length, const uint8_t *rules, size_t rules_length, uint64_t qos, uint8_t retain,
+                            uint8_t disconnect, const uint8_t *topic, size_t topic_length);
+
+/* Are the credentials expired now? Expiry below now is; equal isn't; none never. MQTT_ACL_VALID, MQTT_ACL_EXPIRED, or MQTT_ACL_REFUSED with number 2:
+   nanoseconds of either time over 999,999,999. Nothing is lent. */
+uint64_t mqtt_acl_expired(uint8_t has_expiry, uint64_t expiry_seconds, uint64_t expiry_nanoseconds, uint64_t seconds, uint64_t nanoseconds);
+
+/* ---- What an answer says ---- */
+
+/* What a question, or mqtt_acl_expired, is answered: mqtt_acl_answer_what. */
+enum mqtt_acl_what {
+    MQTT_ACL_REFUSED = 0,            /* refused by number: mqtt_acl_answer_refusal, and mqtt_acl_answer_line for per-client questions */
+    MQTT_ACL_KEPT = 1,               /* the earlier answer is kept, rule 0: mqtt_acl_answer_code */
+    MQTT_ACL_CONNECT_ALLOWED = 2,    /* allow */
+    MQTT_ACL_CONNECT_SUPERUSER = 3,  /* allow, with the superuser flag */
+    MQTT_ACL_SUBSCRIBE_QOS0 = 4,     /* allow, with the asked QoS: mqtt_acl_answer_qos */
+    MQTT_ACL_SUBSCRIBE_QOS1 = 5,
+    MQTT_ACL_SUBSCRIBE_QOS2 = 6,
+    MQTT_ACL_PUBLISH_ALLOWED = 7,    /* allow */
+    MQTT_ACL_NOT_AUTHORIZED = 8,     /* a refused connect, or a refused per-client subscribe */
+    MQTT_ACL_PUBLISH_REFUSED = 9,    /* a refused publish, not authorized, without the disconnect flag */
+    MQTT_ACL_PUBLISH_DROPPED = 10,   /* a refused publish, not authorized, with the disconnect flag */
+    MQTT_ACL_UNSPECIFIED_ERROR = 11, /* a refused subscribe on a store */
+    MQTT_ACL_NO_DECISION = 12,       /* per-client: no rule hits */
+    MQTT_ACL_VALID = 13,             /* not expired */
+    MQTT_ACL_EXPIRED = 14
+};
+
+/* The parts of the number that a question, or mqtt_acl_expired, has answered, so that a caller has no arithmetic to do. Proved too: any
+   number is taken, and from its parts the whole answer is read back. Nothing is lent. */
+
+/* What is answered, an mqtt_acl_what: the number modulo 16. No answer has 15. */
+uint8_t mqtt_acl_answer_what(uint64_t answer);
+
+/* Does the answer allow? A kept code doesn't: it is a refusal. No decision doesn't either; what follows is the caller's. */
+uint8_t mqtt_acl_answer_allows(uint64_t answer);
+
+/* The deciding rule, from 1, at most 256; 0 where none decided, where a code is kept and where the call is refused. */
+uint64_t mqtt_acl_answer_rule(uint64_t answer);
+
+/* The code that is kept; 0 where none is. */
+uint64_t mqtt_acl_answer_code(uint64_t answer);
+
+/* The QoS of an allowed subscribe; 0 of anything else. */
+uint8_t mqtt_acl_answer_qos(uint64_t answer);
+
+/* Does an allowed connect carry the superuser flag? */
+uint8_t mqtt_acl_answer_superuser(uint64_t answer);
+
+/* Does a refused publish carry the disconnect flag? */
+uint8_t mqtt_acl_answer_disconnect(uint64_t answer);
+
+/* The number of document 01, an mqtt_acl_refusal; 0 where the call isn't refused by number. */
+uint8_t mqtt_acl_answer_refusal(uint64_t answer);
+
+/* Its line, of per-client rules, at most 257; 0 where it has none. */
+uint64_t mqtt_acl_answer_line(uint64_t answer);
+
+/* Of mqtt_acl_open: the number, 0 for done, and the line, 0 where it has none. */
+uint8_t mqtt_acl_open_refusal(uint32_t answer);
+uint32_t mqtt_acl_open_line(uint32_t answer);
+
+/* The word that the programs `decide` and `client` write for a question's answer. */
+static inline const char *mqtt_acl_answer_word(uint64_t answer) {
+    static const char *const words[16] = {"error", "kept", "allow", "super", "allow", "allow", "allow", "allow", "refuse",
+                                          "refuse", "drop", "refuse", "none", "valid", "expired", "?"};
+    return words[mqtt_acl_answer_what(answer)];
+}
+
+/* ---- The same calls on texts ---- */
+
+/* A lent text, still the caller's. With `bytes` NULL, whatever the length, it is absent: an optional one doesn't count, any other is
+   empty. The functions below are inline, each over the call that it names, and return what that returns. */
+typedef struct mqtt_acl_text {
+    const void *bytes;
+    size_t length;
+} mqtt_acl_text;
+
+/* The text of these bytes; absent for NULL. */
+static inline mqtt_acl_text mqtt_acl_bytes(const void *bytes, size_t length) {
+    mqtt_acl_text text;
+    text.bytes = bytes;
+    text.length = bytes ? length : 0;
+    return text;
+}
+
+static inline mqtt_acl_text mqtt_acl_absent(void) { return mqtt_acl_bytes(NULL, 0); }
+
+/* The text before the string's zero byte; absent for NULL. */
+static inline mqtt_acl_text mqtt_acl_string(const char *string) { return mqtt_acl_bytes(string, string ? strlen(string) : 0); }
+
+/* What crosses: the address, the length, and the flag of an optional one. */
+static inline const uint8_t *mqtt_acl_address(mqtt_acl_text text) { return (const uint8_t *)text.bytes; }
+static inline size_t mqtt_acl_length(mqtt_acl_text text) { return text.bytes ? text.length : 0; }
+static inline uint8_t mqtt_acl_given(mqtt_acl_text text) { return text.bytes != NULL; }
+
+/* Who asks. */
+typedef struct mqtt_acl_client {
+    mqtt_acl_text id;
+    mqtt_acl_text name;        /* optional, as the next two */
+    mqtt_acl_text password;
+    mqtt_acl_text address;
+    uint8_t has_protocol; /* a flag, not looked at by connect, which always has one */
+    uint8_t protocol;
+} mqtt_acl_client;
+
+/* R, F, E, N: the bytes for the rule text and the rows that each table has room for. */
+typedef struct mqtt_acl_counts {
+    uint64_t bytes, filters, eqs, notes;
+} mqtt_acl_counts;
+
+/* The length of a store with these counts; 0 where one is out of range. */
+static inline size_t mqtt_acl_store_length(mqtt_acl_counts c) {
+    if (c.bytes < 1 || c.bytes > 32768 || c.filters < 1 || c.filters > 4096 || c.eqs < 1 || c.eqs > 4096 || c.notes < 1 || c.notes > 4096)
+        return 0;
+    return (size_t)(16 + c.bytes + 326 * c.filters + 260 * c.eqs + 260 * c.notes);
+}
+
+/* mqtt_acl_valid_filter. */
+static inline uint8_t mqtt_acl_ask_valid_filter(mqtt_acl_text text) { return mqtt_acl_valid_filter(mqtt_acl_address(text), mqtt_acl_length(text)); }
+
+/* mqtt_acl_tree_match. */
+static inline uint8_t mqtt_acl_ask_tree_match(mqtt_acl_text filter, mqtt_acl_text text) {
+    return mqtt_acl_tree_match(mqtt_acl_address(filter), mqtt_acl_length(filter), mqtt_acl_address(text), mqtt_acl_length(text));
+}
+
+/* mqtt_acl_plain_match. */
+static inline uint8_t mqtt_acl_ask_plain_match(mqtt_acl_text filter, mqtt_acl_text text) {
+    return mqtt_acl_plain_match(mqtt_acl_address(filter), mqtt_acl_length(filter), mqtt_acl_address(text), mqtt_acl_length(text));
+}
+
+/* mqtt_acl_is_document. */
+static inline uint8_t mqtt_acl_ask_document(mqtt_acl_text line) { return mqtt_acl_is_document(mqtt_acl_address(line), mqtt_acl_length(line)); }
+
+/* mqtt_acl_is_document_within. */
+static inline uint8_t mqtt_acl_ask_document_within(mqtt_acl_text line, size_t most) {
+    return mqtt_acl_is_document_within(mqtt_acl_address(line), mqtt_acl_length(line), most);
+}
+
+/* mqtt_acl_rule_refusal. */
+static inline uint8_t mqtt_acl_ask_rule_refusal(mqtt_acl_text line) { return mqtt_acl_rule_refusal(mqtt_acl_address(line), mqtt_acl_length(line)); }
+
+/* mqtt_acl_identity. */
+static inline uint8_t mqtt_acl_ask_identity(mqtt_acl_text line, const mqtt_acl_client *c) {
+    return mqtt_acl_identity(mqtt_acl_address(line), mqtt_acl_length(line), mqtt_acl_address(c->id), mqtt_acl_length(c->id), mqtt_acl_given(c->name),
+                        mqtt_acl_address(c->name), mqtt_acl_length(c->name), mqtt_acl_given(c->password), mqtt_acl_address(c->password),
+                        mqtt_acl_length(c->password), mqtt_acl_given(c->address), mqtt_acl_address(c->address), mqtt_acl_length(c->address),
+                        c->has_protocol, c->protocol);
+}
+
+/* mqtt_acl_open. Here and in what follows a store that is NULL is one of no bytes: refused by 4, by events and questions by 3, unless an
+   earlier cause gives another. */
+static inline uint32_t mqtt_acl_tell_open(uint8_t *store, size_t length, mqtt_acl_counts c, mqtt_acl_text text) {
+    return mqtt_acl_open(store, store ? length : 0, c.bytes, c.filters, c.eqs, c.notes, mqtt_acl_address(text), mqtt_acl_length(text));
+}
+
+/* mqtt_acl_connected. */
+static inline uint8_t mqtt_acl_tell_connected(uint8_t *store, size_t length, uint64_t session, mqtt_acl_text id, mqtt_acl_text name) {
+    return mqtt_acl_connected(store, store ? length : 0, session, mqtt_acl_address(id), mqtt_acl_length(id), mqtt_acl_given(name), mqtt_acl_address(name),
+                         mqtt_acl_length(name));
+}
+
+/* mqtt_acl_disconnected. */
+static inline uint8_t mqtt_acl_tell_disconnected(uint8_t *store, size_t length, uint64_t session, mqtt_acl_text id) {
+    return mqtt_acl_disconnected(store, store ? length : 0, session, mqtt_acl_address(id), mqtt_acl_length(id));
+}
+
+/* mqtt_acl_ended. */
+static inline uint8_t mqtt_acl_tell_ended(uint8_t *store, size_t length, uint64_t session) {
+    return mqtt_acl_ended(store, store ? length : 0, session);
+}
+
+/* mqtt_acl_connect. */
+static inline uint32_t mqtt_acl_ask_connect(mqtt_acl_text store, uint64_t earlier, const mqtt_acl_client *c) {
+    return mqtt_acl_connect(mqtt_acl_address(store), mqtt_acl_length(store), earlier, mqtt_acl_address(c->id), mqtt_acl_length(c->id), mqtt_acl_given(c->name),
+                       mqtt_acl_address(c->name), mqtt_acl_length(c->name), mqtt_acl_given(c->password), mqtt_acl_address(c->password),
+                       mqtt_acl_length(c->password), mqtt_acl_given(c->address), mqtt_acl_address(c->address), mqtt_acl_length(c->address), c->protocol);
+}
+
+/* mqtt_acl_subscribe. */
+static inline uint32_t mqtt_acl_ask_subscribe(mqtt_acl_text store, uint64_t earlier, const mqtt_acl_client *c, mqtt_acl_text topic, uint64_t qos) {
+    return mqtt_acl_subscribe(mqtt_acl_address(store), mqtt_acl_length(store), earlier, mqtt_acl_address(c->id), mqtt_acl_length(c->id), mqtt_acl_given(c->name),
+                         mqtt_acl_address(c->name), mqtt_acl_length(c->name), mqtt_acl_given(c->password), mqtt_acl_address(c->password),
+                         mqtt_acl_length(c->password), mqtt_acl_given(c->address), mqtt_acl_address(c->address), mqtt_acl_length(c->address),
+                         c->has_protocol, c->protocol, mqtt_acl_address(topic), mqtt_acl_length(topic), qos);
+}
+
+/* mqtt_acl_publish. */
+static inline uint32_t mqtt_acl_ask_publish(mqtt_acl_text store, uint64_t earlier, const mqtt_acl_client *c, mqtt_acl_text topic, uint8_t disconnect) {
+    return mqtt_acl_publish(mqtt_acl_address(store), mqtt_acl_length(store), earlier, mqtt_acl_address(c->id), mqtt_acl_length(c->id), mqtt_acl_given(c->name),
+                       mqtt_acl_address(c->name), mqtt_acl_length(c->name), mqtt_acl_given(c->password), mqtt_acl_address(c->password),
+                       mqtt_acl_length(c->password), mqtt_acl_given(c->address), mqtt_acl_address(c->address), mqtt_acl_length(c->address),
+                       c->has_protocol, c->protocol, mqtt_acl_address(topic), mqtt_acl_length(topic), disconnect);
+}
+
+/* mqtt_acl_client_subscribe. */
+static inline uint64_t mqtt_acl_ask_client_subscribe(uint8_t superuser, mqtt_acl_text id, mqtt_acl_text name, mqtt_acl_text rules, uint64_t qos,
+                                                mqtt_acl_text topic) {
+    return mqtt_acl_client_subscribe(superuser, mqtt_acl_address(id), mqtt_acl_length(id), mqtt_acl_given(name), mqtt_acl_address(name), mqtt_acl_length(name),
+                                mqtt_acl_address(rules), mqtt_acl_length(rules), qos, mqtt_acl_address(topic), mqtt_acl_length(topic));
+}
+
+/* mqtt_acl_client_publish. */
+static inline uint64_t mqtt_acl_ask_client_publish(uint8_t superuser, mqtt_acl_text id, mqtt_acl_text name, mqtt_acl_text rules, uint64_t qos, uint8_t retain,
+                                              uint8_t disconnect, mqtt_acl_text topic) {
+    return mqtt_acl_client_publish(superuser, mqtt_acl_address(id), mqtt_acl_length(id), mqtt_acl_given(name), mqtt_acl_address(name), mqtt_acl_length(name),
+                              mqtt_acl_address(rules), mqtt_acl_length(rules), qos, retain, disconnect, mqtt_acl_address(topic), mqtt_acl_length(topic));
+}
+
+#ifdef __cplusplus
+}
+#endif
+#endif
