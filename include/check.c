@@ -17,6 +17,9 @@
 
 static unsigned long checks;
 
+#define FIRST_CONNECT MQTT_ACL_EARLIER_CONNECT_NONE
+#define FIRST MQTT_ACL_EARLIER_NONE
+
 /* The parts of a number that is what is answered, and what it carries. */
 static void parts(unsigned what, uint64_t carried) {
     uint64_t answer = 16 * carried + what;
@@ -27,8 +30,8 @@ static void parts(unsigned what, uint64_t carried) {
     CHECK(mqtt_acl_answer_qos(answer) == (what == 5 ? 1 : what == 6 ? 2 : 0));
     CHECK(mqtt_acl_answer_superuser(answer) == (what == 3));
     CHECK(mqtt_acl_answer_disconnect(answer) == (what == 10));
-    CHECK(mqtt_acl_answer_refusal(answer) == (what == MQTT_ACL_REFUSED ? carried % 256 : 0));
-    CHECK(mqtt_acl_answer_line(answer) == (what == MQTT_ACL_REFUSED ? carried / 256 : 0));
+    CHECK(mqtt_acl_answer_refusal(answer) == (what == MQTT_ACL_ERROR ? carried % 256 : 0));
+    CHECK(mqtt_acl_answer_line(answer) == (what == MQTT_ACL_ERROR ? carried / 256 : 0));
 }
 
 static void unpacks(void) {
@@ -38,7 +41,7 @@ static void unpacks(void) {
     }
     for (unsigned number = 1; number <= 10; number++)
         for (unsigned line = 0; line <= 257; line++) {
-            parts(MQTT_ACL_REFUSED, number + 256 * (uint64_t)line);
+            parts(MQTT_ACL_ERROR, number + 256 * (uint64_t)line);
             CHECK(mqtt_acl_open_refusal(number + 256 * line) == number && mqtt_acl_open_line(number + 256 * line) == line);
         }
     CHECK(mqtt_acl_open_refusal(0) == 0 && mqtt_acl_open_line(0) == 0);
@@ -54,17 +57,18 @@ static void counts(void) {
     for (int i = 0; i < 3; i++) {
         size_t length = mqtt_acl_store_length(good[i]);
         uint8_t *store = (uint8_t *)malloc(length);
-        CHECK(store != NULL && mqtt_acl_tell_open(store, length, good[i], mqtt_acl_absent()) == 0);
-        CHECK(mqtt_acl_tell_open(store, length - 1, good[i], mqtt_acl_absent()) == MQTT_ACL_COUNTS);
+        CHECK(store != NULL && mqtt_acl_tell_open(mqtt_acl_store_in(store, length), good[i], mqtt_acl_absent()) == 0);
+        CHECK(mqtt_acl_tell_open(mqtt_acl_store_in(store, length - 1), good[i], mqtt_acl_absent()) == MQTT_ACL_COUNTS);
         free(store);
     }
     const uint64_t over[] = {0, 32769, UINT64_MAX};
+    const mqtt_acl_store null = {NULL, SIZE_MAX};
     for (int i = 0; i < 12; i++) {
         uint64_t n[4] = {1, 1, 1, 1};
         n[i % 4] = over[i / 4];
         mqtt_acl_counts c = {n[0], n[1], n[2], n[3]};
         CHECK(mqtt_acl_store_length(c) == 0);
-        CHECK(mqtt_acl_tell_open(NULL, SIZE_MAX, c, mqtt_acl_absent()) == MQTT_ACL_COUNTS);
+        CHECK(mqtt_acl_tell_open(null, c, mqtt_acl_absent()) == MQTT_ACL_COUNTS);
     }
     for (int i = 1; i < 4; i++) {
         uint64_t n[4] = {1, 1, 1, 1};
@@ -77,6 +81,8 @@ static void counts(void) {
 /* Of an inline call: NULL is an absent text, a text of no bytes where it isn't optional, and a store of no bytes. */
 static void nulls(void) {
     const mqtt_acl_text none = mqtt_acl_absent();
+    const mqtt_acl_store null = {NULL, 9};
+    const mqtt_acl_authinfo none_own = {{NULL, 9}, {NULL, 9}, {NULL, 9}, 0}, root = {{NULL, 9}, {NULL, 9}, {NULL, 9}, 1};
     const mqtt_acl_client nobody = {{NULL, 9}, {NULL, 9}, {NULL, 9}, {NULL, 9}, 0, 0};
     const mqtt_acl_client empty = {{NULL, 0}, {"", 0}, {"", 0}, {"", 0}, 1, 0};
     CHECK(!mqtt_acl_given(none) && mqtt_acl_given(mqtt_acl_string("")) && !mqtt_acl_given(mqtt_acl_string(NULL)));
@@ -86,20 +92,22 @@ static void nulls(void) {
     CHECK(mqtt_acl_ask_identity(none, &nobody) == MQTT_ACL_NO_RULE);
     CHECK(mqtt_acl_ask_identity(mqtt_acl_string("[\"allow\",{\"user\":\"\"}]"), &nobody) == MQTT_ACL_DIFFERS);
     CHECK(mqtt_acl_ask_identity(mqtt_acl_string("[\"allow\",{\"user\":\"\",\"superuser\":true}]"), &empty) == MQTT_ACL_AGREES_SUPERUSER);
-    CHECK(mqtt_acl_tell_connected(NULL, 9, 0, none, none) == MQTT_ACL_MALFORMED && mqtt_acl_tell_disconnected(NULL, 9, 0, none) == MQTT_ACL_MALFORMED);
-    CHECK(mqtt_acl_tell_ended(NULL, 9, 0) == MQTT_ACL_MALFORMED && mqtt_acl_tell_ended(NULL, 9, 256) == MQTT_ACL_OUT_OF_RANGE);
-    CHECK(mqtt_acl_answer_refusal(mqtt_acl_ask_connect(none, 0, &nobody)) == MQTT_ACL_MALFORMED);
-    CHECK(mqtt_acl_answer_refusal(mqtt_acl_ask_subscribe(none, 0, &nobody, none, 0)) == MQTT_ACL_MALFORMED);
-    CHECK(mqtt_acl_answer_refusal(mqtt_acl_ask_publish(none, 0, &nobody, none, 1)) == MQTT_ACL_MALFORMED);
-    CHECK(mqtt_acl_answer_what(mqtt_acl_ask_client_subscribe(0, none, none, none, 0, none)) == MQTT_ACL_NO_DECISION);
-    CHECK(mqtt_acl_answer_what(mqtt_acl_ask_client_publish(1, none, none, none, 0, 0, 0, none)) == MQTT_ACL_PUBLISH_ALLOWED);
+    CHECK(mqtt_acl_tell_connected(null, 0, &nobody) == MQTT_ACL_MALFORMED && mqtt_acl_tell_disconnected(null, 0, &nobody) == MQTT_ACL_MALFORMED);
+    CHECK(mqtt_acl_tell_ended(null, 0) == MQTT_ACL_MALFORMED && mqtt_acl_tell_ended(null, 256) == MQTT_ACL_OUT_OF_RANGE);
+    CHECK(mqtt_acl_lent(null) == 0 && mqtt_acl_store_in(NULL, 9).length == 0);
+    CHECK(mqtt_acl_answer_refusal(mqtt_acl_ask_connect(null, FIRST_CONNECT, &nobody)) == MQTT_ACL_MALFORMED);
+    CHECK(mqtt_acl_answer_refusal(mqtt_acl_ask_subscribe(null, FIRST, &nobody, none, 0)) == MQTT_ACL_MALFORMED);
+    CHECK(mqtt_acl_answer_refusal(mqtt_acl_ask_publish(null, FIRST, &nobody, none, 1)) == MQTT_ACL_MALFORMED);
+    CHECK(mqtt_acl_answer_what(mqtt_acl_ask_client_subscribe(&none_own, none, 0)) == MQTT_ACL_NO_DECISION);
+    CHECK(mqtt_acl_answer_what(mqtt_acl_ask_client_publish(&root, none, 0, 0, 0)) == MQTT_ACL_PUBLISH_ALLOWED);
 }
 
 /* Each of the four that can agree with a rule, to its own place in each of the four calls that take a client. */
 static void places(void) {
     static uint8_t store[16 + 256 + 326 + 260 + 260];
     const mqtt_acl_counts counts = {256, 1, 1, 1};
-    const mqtt_acl_text lent = mqtt_acl_bytes(store, sizeof store), topic = mqtt_acl_string("t");
+    const mqtt_acl_store lent = mqtt_acl_store_in(store, sizeof store);
+    const mqtt_acl_text topic = mqtt_acl_string("t");
     const char *const rules[] = {"[\"allow\",{\"clientid\":\"x\"}]", "[\"allow\",{\"user\":\"x\",\"password\":\"y\"}]",
                                  "[\"allow\",{\"ipaddr\":\"x\"}]", "[\"allow\",{\"protocol\":4}]"};
     const mqtt_acl_client clients[] = {{{"x", 1}, {NULL, 0}, {NULL, 0}, {NULL, 0}, 1, 3},
@@ -107,13 +115,13 @@ static void places(void) {
                                   {{"-", 1}, {NULL, 0}, {NULL, 0}, {"x", 1}, 1, 3},
                                   {{"-", 1}, {NULL, 0}, {NULL, 0}, {NULL, 0}, 1, 4}};
     for (int r = 0; r < 4; r++) {
-        CHECK(mqtt_acl_tell_open(store, sizeof store, counts, mqtt_acl_string(rules[r])) == 0);
+        CHECK(mqtt_acl_tell_open(mqtt_acl_store_in(store, sizeof store), counts, mqtt_acl_string(rules[r])) == 0);
         for (int c = 0; c < 4; c++) {
             unsigned yes = r == c;
             CHECK(mqtt_acl_ask_identity(mqtt_acl_string(rules[r]), &clients[c]) == yes);
-            CHECK(mqtt_acl_ask_connect(lent, 0, &clients[c]) == (yes ? 16 + MQTT_ACL_CONNECT_ALLOWED : MQTT_ACL_NOT_AUTHORIZED));
-            CHECK(mqtt_acl_ask_subscribe(lent, 0, &clients[c], topic, 2) == (yes ? 16 + MQTT_ACL_SUBSCRIBE_QOS2 : MQTT_ACL_UNSPECIFIED_ERROR));
-            CHECK(mqtt_acl_ask_publish(lent, 0, &clients[c], topic, 1) == (yes ? 16 + MQTT_ACL_PUBLISH_ALLOWED : MQTT_ACL_PUBLISH_DROPPED));
+            CHECK(mqtt_acl_ask_connect(lent, FIRST_CONNECT, &clients[c]) == (yes ? 16 + MQTT_ACL_CONNECT_ALLOWED : MQTT_ACL_NOT_AUTHORIZED));
+            CHECK(mqtt_acl_ask_subscribe(lent, FIRST, &clients[c], topic, 2) == (yes ? 16 + MQTT_ACL_SUBSCRIBE_QOS2 : MQTT_ACL_SUBSCRIBE_REFUSED));
+            CHECK(mqtt_acl_ask_publish(lent, FIRST, &clients[c], topic, 1) == (yes ? 16 + MQTT_ACL_PUBLISH_ALLOWED : MQTT_ACL_PUBLISH_DROPPED));
         }
     }
     CHECK(mqtt_acl_ask_tree_match(mqtt_acl_string("+"), mqtt_acl_string("a")) && !mqtt_acl_ask_tree_match(mqtt_acl_string("a"), mqtt_acl_string("+")));
@@ -126,7 +134,8 @@ static void places(void) {
 static void absent(void) {
     static uint8_t store[16 + 256 + 326 + 260 + 260];
     const mqtt_acl_counts counts = {256, 1, 1, 1};
-    const mqtt_acl_text lent = mqtt_acl_bytes(store, sizeof store), topic = mqtt_acl_string("t");
+    const mqtt_acl_store lent = mqtt_acl_store_in(store, sizeof store);
+    const mqtt_acl_text topic = mqtt_acl_string("t");
     const char *const rules[] = {"[\"allow\",{\"user\":\"\"}]", "[\"allow\",{\"user\":\"x\",\"password\":\"\"}]",
                                  "[\"allow\",{\"ipaddr\":\"\"}]", "[\"allow\",{\"protocol\":0}]"};
     for (int r = 0; r < 4; r++)
@@ -139,11 +148,11 @@ static void absent(void) {
                 c.has_protocol = (uint8_t)given;
                 c.protocol = 0;
             }
-            CHECK(mqtt_acl_tell_open(store, sizeof store, counts, mqtt_acl_string(rules[r])) == 0);
+            CHECK(mqtt_acl_tell_open(mqtt_acl_store_in(store, sizeof store), counts, mqtt_acl_string(rules[r])) == 0);
             CHECK(mqtt_acl_ask_identity(mqtt_acl_string(rules[r]), &c) == given);
-            CHECK(mqtt_acl_answer_allows(mqtt_acl_ask_connect(lent, 0, &c)) == (given || r == 3));
-            CHECK(mqtt_acl_answer_allows(mqtt_acl_ask_subscribe(lent, 0, &c, topic, 0)) == given);
-            CHECK(mqtt_acl_answer_allows(mqtt_acl_ask_publish(lent, 0, &c, topic, 0)) == given);
+            CHECK(mqtt_acl_answer_allows(mqtt_acl_ask_connect(lent, FIRST_CONNECT, &c)) == (given || r == 3));
+            CHECK(mqtt_acl_answer_allows(mqtt_acl_ask_subscribe(lent, FIRST, &c, topic, 0)) == given);
+            CHECK(mqtt_acl_answer_allows(mqtt_acl_ask_publish(lent, FIRST, &c, topic, 0)) == given);
         }
 }
 
@@ -152,31 +161,32 @@ static void clients(void) {
     const mqtt_acl_text id = mqtt_acl_string("i"), name = mqtt_acl_string("n");
     const mqtt_acl_text rule = mqtt_acl_string("{\"permission\":\"deny\",\"action\":\"all\",\"qos\":1,\"retain\":true,\"topic\":\"eq ${clientid}${username}\"}");
     const mqtt_acl_text topic = mqtt_acl_string("in");
-    CHECK(mqtt_acl_ask_client_subscribe(0, id, name, rule, 1, topic) == 16 + MQTT_ACL_NOT_AUTHORIZED);
-    CHECK(mqtt_acl_ask_client_subscribe(0, id, name, rule, 0, topic) == MQTT_ACL_NO_DECISION);
-    CHECK(mqtt_acl_ask_client_subscribe(1, id, name, rule, 1, topic) == MQTT_ACL_SUBSCRIBE_QOS1);
-    CHECK(mqtt_acl_ask_client_publish(0, id, name, rule, 1, 1, 0, topic) == 16 + MQTT_ACL_PUBLISH_REFUSED);
-    CHECK(mqtt_acl_ask_client_publish(0, id, name, rule, 1, 1, 1, topic) == 16 + MQTT_ACL_PUBLISH_DROPPED);
-    CHECK(mqtt_acl_ask_client_publish(0, id, name, rule, 1, 0, 1, topic) == MQTT_ACL_NO_DECISION);
-    CHECK(mqtt_acl_ask_client_publish(0, id, mqtt_acl_absent(), rule, 1, 1, 1, topic) == 16 * (MQTT_ACL_NOT_A_RULE + 256));
+    const mqtt_acl_authinfo own = {id, name, rule, 0}, root = {id, name, rule, 1}, nameless = {id, {NULL, 0}, rule, 0};
+    CHECK(mqtt_acl_ask_client_subscribe(&own, topic, 1) == 16 + MQTT_ACL_NOT_AUTHORIZED);
+    CHECK(mqtt_acl_ask_client_subscribe(&own, topic, 0) == MQTT_ACL_NO_DECISION);
+    CHECK(mqtt_acl_ask_client_subscribe(&root, topic, 1) == MQTT_ACL_SUBSCRIBE_QOS1);
+    CHECK(mqtt_acl_ask_client_publish(&own, topic, 1, 1, 0) == 16 + MQTT_ACL_PUBLISH_REFUSED);
+    CHECK(mqtt_acl_ask_client_publish(&own, topic, 1, 1, 1) == 16 + MQTT_ACL_PUBLISH_DROPPED);
+    CHECK(mqtt_acl_ask_client_publish(&own, topic, 1, 0, 1) == MQTT_ACL_NO_DECISION);
+    CHECK(mqtt_acl_ask_client_publish(&nameless, topic, 1, 1, 1) == 16 * (MQTT_ACL_NOT_A_RULE + 256));
     CHECK(mqtt_acl_expired(1, 9, 5, 9, 6) == MQTT_ACL_EXPIRED && mqtt_acl_expired(1, 9, 5, 9, 5) == MQTT_ACL_VALID);
     CHECK(mqtt_acl_expired(1, 9, 5, 9, UINT64_MAX) == 16 * MQTT_ACL_OUT_OF_RANGE);
 
     static uint8_t store[16 + 256 + 326 + 260 + 260];
     const mqtt_acl_counts counts = {256, 1, 1, 1};
-    const mqtt_acl_client client = {id, name, {NULL, 0}, {NULL, 0}, 0, 0};
-    const mqtt_acl_text lent = mqtt_acl_bytes(store, sizeof store);
-    CHECK(mqtt_acl_tell_open(store, sizeof store, counts, mqtt_acl_string("[\"allow\",\"all\",\"all\",[\"%c%u\"]]")) == 0);
-    CHECK(mqtt_acl_ask_publish(lent, 0, &client, topic, 0) == MQTT_ACL_PUBLISH_REFUSED);
-    CHECK(mqtt_acl_tell_connected(store, sizeof store, 7, id, name) == 0);
-    CHECK(mqtt_acl_ask_publish(lent, 0, &client, topic, 0) == 16 + MQTT_ACL_PUBLISH_ALLOWED);
-    CHECK(mqtt_acl_ask_publish(lent, 2, &client, topic, 0) == 16 * 2 + MQTT_ACL_KEPT);
-    CHECK(mqtt_acl_tell_disconnected(store, sizeof store, 8, id) == 0 && mqtt_acl_tell_disconnected(store, sizeof store, 7, name) == 0);
-    CHECK(mqtt_acl_ask_publish(lent, 0, &client, topic, 0) == 16 + MQTT_ACL_PUBLISH_ALLOWED);
-    CHECK(mqtt_acl_tell_disconnected(store, sizeof store, 7, id) == 0 && store[14] == 1);
-    CHECK(mqtt_acl_ask_publish(lent, 0, &client, topic, 0) == MQTT_ACL_PUBLISH_REFUSED);
-    CHECK(mqtt_acl_tell_ended(store, sizeof store, 8) == 0 && store[14] == 1);
-    CHECK(mqtt_acl_tell_ended(store, sizeof store, 7) == 0 && store[14] == 0);
+    const mqtt_acl_client client = {id, name, {NULL, 0}, {NULL, 0}, 0, 0}, other = {name, id, {NULL, 0}, {NULL, 0}, 0, 0};
+    const mqtt_acl_store lent = mqtt_acl_store_in(store, sizeof store);
+    CHECK(mqtt_acl_tell_open(mqtt_acl_store_in(store, sizeof store), counts, mqtt_acl_string("[\"allow\",\"all\",\"all\",[\"%c%u\"]]")) == 0);
+    CHECK(mqtt_acl_ask_publish(lent, FIRST, &client, topic, 0) == MQTT_ACL_PUBLISH_REFUSED);
+    CHECK(mqtt_acl_tell_connected(lent, 7, &client) == 0);
+    CHECK(mqtt_acl_ask_publish(lent, FIRST, &client, topic, 0) == 16 + MQTT_ACL_PUBLISH_ALLOWED);
+    CHECK(mqtt_acl_ask_publish(lent, MQTT_ACL_EARLIER_REJECTED, &client, topic, 0) == 16 * 2 + MQTT_ACL_KEPT);
+    CHECK(mqtt_acl_tell_disconnected(lent, 8, &client) == 0 && mqtt_acl_tell_disconnected(lent, 7, &other) == 0);
+    CHECK(mqtt_acl_ask_publish(lent, FIRST, &client, topic, 0) == 16 + MQTT_ACL_PUBLISH_ALLOWED);
+    CHECK(mqtt_acl_tell_disconnected(lent, 7, &client) == 0 && store[14] == 1);
+    CHECK(mqtt_acl_ask_publish(lent, FIRST, &client, topic, 0) == MQTT_ACL_PUBLISH_REFUSED);
+    CHECK(mqtt_acl_tell_ended(lent, 8) == 0 && store[14] == 1);
+    CHECK(mqtt_acl_tell_ended(lent, 7) == 0 && store[14] == 0);
 }
 
 /* Each address NULL with length 0, alone and with all others, of calls that would read or write it if it had bytes. Page 0 isn't
@@ -187,13 +197,13 @@ static void clients(void) {
 static void null_addresses(void) {
     static uint8_t store[16 + 256 + 326 + 260 + 260];
     const mqtt_acl_counts counts = {256, 1, 1, 1};
-    CHECK(mqtt_acl_tell_open(store, sizeof store, counts, mqtt_acl_string("[\"allow\",\"all\",\"all\",[\"%c\"]]")) == 0);
+    CHECK(mqtt_acl_tell_open(mqtt_acl_store_in(store, sizeof store), counts, mqtt_acl_string("[\"allow\",\"all\",\"all\",[\"%c\"]]")) == 0);
     for (unsigned null = 0; null < 64; null++) {
         unsigned whole = !(null & 1), three = 16 * MQTT_ACL_MALFORMED;
         uint32_t by = mqtt_acl_connect(STORE(0), 0, AT(1, "i"), 1, AT(2, "n"), 1, AT(3, "p"), 1, AT(4, "a"), 4);
         CHECK(by == (whole ? 16 + MQTT_ACL_CONNECT_ALLOWED : three));
         by = mqtt_acl_subscribe(STORE(0), 0, AT(1, "i"), 1, AT(2, "n"), 1, AT(3, "p"), 1, AT(4, "a"), 1, 4, AT(5, "t"), 0);
-        CHECK(by == (whole ? MQTT_ACL_UNSPECIFIED_ERROR : three));
+        CHECK(by == (whole ? MQTT_ACL_SUBSCRIBE_REFUSED : three));
         by = mqtt_acl_publish(STORE(0), 0, AT(1, "i"), 1, AT(2, "n"), 1, AT(3, "p"), 1, AT(4, "a"), 1, 4, AT(5, "t"), 0);
         CHECK(by == (whole ? MQTT_ACL_PUBLISH_REFUSED : three));
         by = mqtt_acl_identity(AT(0, "[\"allow\",{\"user\":\"n\"}]"), AT(1, "i"), 1, AT(2, "n"), 1, AT(3, "p"), 1, AT(4, "a"), 1, 4);
@@ -209,9 +219,9 @@ static void null_texts(void) {
     for (unsigned null = 0; null < 16; null++) {
         const char rule[] = "{\"permission\":\"deny\",\"action\":\"all\",\"topic\":\"eq ${clientid}${username}\"}";
         unsigned hits = (null & 11) == 0 || (null & 11) == 11;
-        uint64_t by = mqtt_acl_client_subscribe(0, AT(0, "i"), 1, AT(1, "n"), AT(2, rule), 0, AT(3, "in"));
+        uint64_t by = mqtt_acl_client_subscribe(0, AT(0, "i"), 1, AT(1, "n"), AT(2, rule), AT(3, "in"), 0);
         CHECK(by == (null & 4 || !hits ? MQTT_ACL_NO_DECISION : 16 + MQTT_ACL_NOT_AUTHORIZED));
-        by = mqtt_acl_client_publish(0, AT(0, "i"), 1, AT(1, "n"), AT(2, rule), 0, 0, 0, AT(3, "in"));
+        by = mqtt_acl_client_publish(0, AT(0, "i"), 1, AT(1, "n"), AT(2, rule), AT(3, "in"), 0, 0, 0);
         CHECK(by == (null & 4 || !hits ? MQTT_ACL_NO_DECISION : 16 + MQTT_ACL_PUBLISH_REFUSED));
         CHECK(mqtt_acl_tree_match(AT(0, "+"), AT(1, "a")) == (!(null & 1) || null & 2));
         CHECK(mqtt_acl_plain_match(AT(0, "+"), AT(1, "a")) == (!(null & 1) || null & 2));
@@ -230,7 +240,7 @@ static void flags(void) {
                                  "[\"allow\",{\"ipaddr\":\"x\"}]", "[\"allow\",{\"protocol\":4}]"};
     const uint8_t *const x = (const uint8_t *)"x";
     for (int r = 0; r < 4; r++) {
-        CHECK(mqtt_acl_tell_open(store, sizeof store, counts, mqtt_acl_string(rules[r])) == 0);
+        CHECK(mqtt_acl_tell_open(mqtt_acl_store_in(store, sizeof store), counts, mqtt_acl_string(rules[r])) == 0);
         for (unsigned flag = 0; flag < 256; flag++) {
             uint8_t n = (uint8_t)(r == 0 ? flag : r == 1), p = (uint8_t)(r == 1 ? flag : 0), a = (uint8_t)(r == 2 ? flag : 0),
                     q = (uint8_t)(r == 3 ? flag : 0), d = (uint8_t)flag;
@@ -255,14 +265,14 @@ static void client_flags(void) {
     for (unsigned flag = 0; flag < 256; flag++) {
         uint8_t f = (uint8_t)flag;
         unsigned is = flag != 0;
-        CHECK(mqtt_acl_client_subscribe(f, x, 1, 0, x, 1, r, l, 2, x, 1) == (is ? MQTT_ACL_SUBSCRIBE_QOS2 : MQTT_ACL_NO_DECISION));
-        CHECK(mqtt_acl_client_publish(f, x, 1, 0, x, 1, r, l, 0, 0, 0, x, 1) == (is ? MQTT_ACL_PUBLISH_ALLOWED : MQTT_ACL_NO_DECISION));
-        CHECK(mqtt_acl_client_publish(0, x, 1, 0, x, 1, r, l, 0, f, 0, x, 1) == (is ? 16 + MQTT_ACL_PUBLISH_REFUSED : MQTT_ACL_NO_DECISION));
-        CHECK(mqtt_acl_client_publish(0, x, 1, 0, x, 1, r, l, 0, 1, f, x, 1) == 16 + MQTT_ACL_PUBLISH_REFUSED + is);
-        CHECK(mqtt_acl_client_publish(0, x, 1, f, x, 1, t, m, 0, 1, 0, x, 1) == (is ? 16 + MQTT_ACL_PUBLISH_REFUSED : 16 * (MQTT_ACL_NOT_A_RULE + 256)));
-        CHECK(mqtt_acl_client_subscribe(0, x, 1, f, x, 1, t, m, 0, x, 1) == (is ? 16 + MQTT_ACL_NOT_AUTHORIZED : 16 * (MQTT_ACL_NOT_A_RULE + 256)));
+        CHECK(mqtt_acl_client_subscribe(f, x, 1, 0, x, 1, r, l, x, 1, 2) == (is ? MQTT_ACL_SUBSCRIBE_QOS2 : MQTT_ACL_NO_DECISION));
+        CHECK(mqtt_acl_client_publish(f, x, 1, 0, x, 1, r, l, x, 1, 0, 0, 0) == (is ? MQTT_ACL_PUBLISH_ALLOWED : MQTT_ACL_NO_DECISION));
+        CHECK(mqtt_acl_client_publish(0, x, 1, 0, x, 1, r, l, x, 1, 0, f, 0) == (is ? 16 + MQTT_ACL_PUBLISH_REFUSED : MQTT_ACL_NO_DECISION));
+        CHECK(mqtt_acl_client_publish(0, x, 1, 0, x, 1, r, l, x, 1, 0, 1, f) == 16 + MQTT_ACL_PUBLISH_REFUSED + is);
+        CHECK(mqtt_acl_client_publish(0, x, 1, f, x, 1, t, m, x, 1, 0, 1, 0) == (is ? 16 + MQTT_ACL_PUBLISH_REFUSED : 16 * (MQTT_ACL_NOT_A_RULE + 256)));
+        CHECK(mqtt_acl_client_subscribe(0, x, 1, f, x, 1, t, m, x, 1, 0) == (is ? 16 + MQTT_ACL_NOT_AUTHORIZED : 16 * (MQTT_ACL_NOT_A_RULE + 256)));
         CHECK(mqtt_acl_expired(f, 0, 0, 1, 0) == (is ? MQTT_ACL_EXPIRED : MQTT_ACL_VALID));
-        CHECK(mqtt_acl_tell_open(store, sizeof store, counts, mqtt_acl_string("[\"allow\",\"all\",\"all\",[\"%u\"]]")) == 0);
+        CHECK(mqtt_acl_tell_open(mqtt_acl_store_in(store, sizeof store), counts, mqtt_acl_string("[\"allow\",\"all\",\"all\",[\"%u\"]]")) == 0);
         CHECK(mqtt_acl_connected(store, sizeof store, 0, x, 1, f, x, 1) == 0 && store[10] == 1);
         CHECK(store[16 + 256 + 2] == is);
     }
@@ -274,22 +284,23 @@ static void text_lengths(void) {
     static const char long_text[258] = {0};
     const size_t most[] = {64, 64, 128, 45, 256};
     const mqtt_acl_counts counts = {1, 1, 1, 1};
-    const mqtt_acl_text lent = mqtt_acl_bytes(store, sizeof store);
-    CHECK(mqtt_acl_tell_open(store, sizeof store, counts, mqtt_acl_absent()) == 0);
+    const mqtt_acl_store lent = mqtt_acl_store_in(store, sizeof store);
+    CHECK(mqtt_acl_tell_open(mqtt_acl_store_in(store, sizeof store), counts, mqtt_acl_absent()) == 0);
     for (int place = 0; place < 5; place++)
         for (size_t past = 0; past < 2; past++) {
             mqtt_acl_text texts[5] = {{"i", 1}, {NULL, 0}, {NULL, 0}, {NULL, 0}, {"t", 1}};
             texts[place] = mqtt_acl_bytes(long_text, most[place] + past);
             const mqtt_acl_client c = {texts[0], texts[1], texts[2], texts[3], 0, 0};
+            const mqtt_acl_authinfo a = {texts[0], texts[1], {NULL, 0}, 0};
             unsigned by = past ? MQTT_ACL_TOO_LONG : 0;
-            CHECK(mqtt_acl_answer_refusal(mqtt_acl_ask_connect(lent, 0, &c)) == (place < 4 ? by : 0));
-            CHECK(mqtt_acl_answer_refusal(mqtt_acl_ask_subscribe(lent, 0, &c, texts[4], 0)) == by);
-            CHECK(mqtt_acl_answer_refusal(mqtt_acl_ask_publish(lent, 0, &c, texts[4], 0)) == by);
+            CHECK(mqtt_acl_answer_refusal(mqtt_acl_ask_connect(lent, FIRST_CONNECT, &c)) == (place < 4 ? by : 0));
+            CHECK(mqtt_acl_answer_refusal(mqtt_acl_ask_subscribe(lent, FIRST, &c, texts[4], 0)) == by);
+            CHECK(mqtt_acl_answer_refusal(mqtt_acl_ask_publish(lent, FIRST, &c, texts[4], 0)) == by);
             unsigned own = place == 2 || place == 3 ? 0 : by;
-            CHECK(mqtt_acl_answer_refusal(mqtt_acl_ask_client_subscribe(0, c.id, c.name, mqtt_acl_absent(), 0, texts[4])) == own);
-            CHECK(mqtt_acl_answer_refusal(mqtt_acl_ask_client_publish(0, c.id, c.name, mqtt_acl_absent(), 0, 0, 0, texts[4])) == own);
-            CHECK(mqtt_acl_tell_connected(store, sizeof store, 0, c.id, c.name) == (place < 2 ? by : 0));
-            CHECK(mqtt_acl_tell_disconnected(store, sizeof store, 0, c.id) == (place < 1 ? by : 0));
+            CHECK(mqtt_acl_answer_refusal(mqtt_acl_ask_client_subscribe(&a, texts[4], 0)) == own);
+            CHECK(mqtt_acl_answer_refusal(mqtt_acl_ask_client_publish(&a, texts[4], 0, 0, 0)) == own);
+            CHECK(mqtt_acl_tell_connected(lent, 0, &c) == (place < 2 ? by : 0));
+            CHECK(mqtt_acl_tell_disconnected(lent, 0, &c) == (place < 1 ? by : 0));
             CHECK(mqtt_acl_ask_identity(mqtt_acl_string("[\"allow\",\"all\"]"), &c) == MQTT_ACL_AGREES);
         }
 }
@@ -300,21 +311,24 @@ static uint64_t over(uint64_t most, uint64_t past) { return past == UINT64_MAX ?
 static void numbers(void) {
     static uint8_t store[16 + 1 + 326 + 260 + 260];
     const mqtt_acl_counts counts = {1, 1, 1, 1};
-    const mqtt_acl_text lent = mqtt_acl_bytes(store, sizeof store), none = mqtt_acl_absent(), t = mqtt_acl_string("t");
+    const mqtt_acl_store lent = mqtt_acl_store_in(store, sizeof store);
+    const mqtt_acl_text none = mqtt_acl_absent(), t = mqtt_acl_string("t");
     const mqtt_acl_client c = {{"i", 1}, {NULL, 0}, {NULL, 0}, {NULL, 0}, 0, 0};
+    const mqtt_acl_authinfo own = {{"i", 1}, {NULL, 0}, {NULL, 0}, 0}, root = {{"i", 1}, {NULL, 0}, {NULL, 0}, 1};
+    const uint8_t *const i = (const uint8_t *)"i";
     const uint64_t past[] = {0, 1, UINT64_C(1) << 8, UINT64_C(1) << 16, UINT64_C(1) << 32, UINT64_C(1) << 63, UINT64_MAX};
-    CHECK(mqtt_acl_tell_open(store, sizeof store, counts, none) == 0);
-    for (int i = 0; i < 7; i++) {
-        unsigned by = i ? MQTT_ACL_OUT_OF_RANGE : 0;
-        uint64_t session = over(255, past[i]), four = over(4, past[i]), two = over(2, past[i]), nanoseconds = over(999999999, past[i]);
-        CHECK(mqtt_acl_tell_connected(store, sizeof store, session, c.id, none) == by);
-        CHECK(mqtt_acl_tell_disconnected(store, sizeof store, session, c.id) == by && mqtt_acl_tell_ended(store, sizeof store, session) == by);
-        CHECK(mqtt_acl_answer_refusal(mqtt_acl_ask_connect(lent, four, &c)) == by);
-        CHECK(mqtt_acl_answer_refusal(mqtt_acl_ask_subscribe(lent, two, &c, t, 0)) == by);
-        CHECK(mqtt_acl_answer_refusal(mqtt_acl_ask_subscribe(lent, 0, &c, t, two)) == by);
-        CHECK(mqtt_acl_answer_refusal(mqtt_acl_ask_publish(lent, two, &c, t, 0)) == by);
-        CHECK(mqtt_acl_answer_refusal(mqtt_acl_ask_client_subscribe(0, c.id, none, none, two, t)) == by);
-        CHECK(mqtt_acl_answer_refusal(mqtt_acl_ask_client_publish(1, c.id, none, none, two, 0, 0, t)) == by);
+    CHECK(mqtt_acl_tell_open(mqtt_acl_store_in(store, sizeof store), counts, none) == 0);
+    for (int k = 0; k < 7; k++) {
+        unsigned by = k ? MQTT_ACL_OUT_OF_RANGE : 0;
+        uint64_t session = over(255, past[k]), four = over(4, past[k]), two = over(2, past[k]), nanoseconds = over(999999999, past[k]);
+        CHECK(mqtt_acl_tell_connected(lent, session, &c) == by);
+        CHECK(mqtt_acl_tell_disconnected(lent, session, &c) == by && mqtt_acl_tell_ended(lent, session) == by);
+        CHECK(mqtt_acl_answer_refusal(mqtt_acl_connect(store, sizeof store, four, i, 1, 0, i, 0, 0, i, 0, 0, i, 0, 0)) == by);
+        CHECK(mqtt_acl_answer_refusal(mqtt_acl_subscribe(store, sizeof store, two, i, 1, 0, i, 0, 0, i, 0, 0, i, 0, 0, 0, i, 1, 0)) == by);
+        CHECK(mqtt_acl_answer_refusal(mqtt_acl_ask_subscribe(lent, FIRST, &c, t, two)) == by);
+        CHECK(mqtt_acl_answer_refusal(mqtt_acl_publish(store, sizeof store, two, i, 1, 0, i, 0, 0, i, 0, 0, i, 0, 0, 0, i, 1, 0)) == by);
+        CHECK(mqtt_acl_answer_refusal(mqtt_acl_ask_client_subscribe(&own, t, two)) == by);
+        CHECK(mqtt_acl_answer_refusal(mqtt_acl_ask_client_publish(&root, t, two, 0, 0)) == by);
         CHECK(mqtt_acl_answer_refusal(mqtt_acl_expired(1, UINT64_MAX, nanoseconds, UINT64_MAX, 0)) == by);
         CHECK(mqtt_acl_answer_refusal(mqtt_acl_expired(1, UINT64_MAX, 0, UINT64_MAX, nanoseconds)) == by);
         CHECK(mqtt_acl_answer_refusal(mqtt_acl_expired(0, 0, nanoseconds, UINT64_MAX, 0)) == 0);
@@ -322,7 +336,27 @@ static void numbers(void) {
     }
 }
 
+/* Each earlier code, by its name: which are kept. */
+static void earlier(void) {
+    static uint8_t store[16 + 256 + 326 + 260 + 260];
+    const mqtt_acl_counts counts = {256, 1, 1, 1};
+    const mqtt_acl_store lent = mqtt_acl_store_in(store, sizeof store);
+    const mqtt_acl_client c = {{"i", 1}, {NULL, 0}, {NULL, 0}, {NULL, 0}, 0, 0};
+    const enum mqtt_acl_earlier_connect connect[] = {MQTT_ACL_EARLIER_CONNECT_NONE, MQTT_ACL_EARLIER_CONNECT_ALLOW,
+                                                     MQTT_ACL_EARLIER_CONNECT_NOT_FOUND, MQTT_ACL_EARLIER_CONNECT_BAD_LOGIN,
+                                                     MQTT_ACL_EARLIER_CONNECT_NOT_AUTHORIZED};
+    const enum mqtt_acl_earlier others[] = {MQTT_ACL_EARLIER_NONE, MQTT_ACL_EARLIER_ALLOW, MQTT_ACL_EARLIER_REJECTED};
+    CHECK(mqtt_acl_tell_open(lent, counts, mqtt_acl_string("[\"allow\",\"all\"]")) == 0);
+    for (unsigned k = 0; k < 5; k++)
+        CHECK(mqtt_acl_ask_connect(lent, connect[k], &c) == (k < 3 ? 16 + MQTT_ACL_CONNECT_ALLOWED : 16 * k + MQTT_ACL_KEPT));
+    for (unsigned k = 0; k < 3; k++) {
+        CHECK(mqtt_acl_ask_subscribe(lent, others[k], &c, c.id, 0) == (k < 2 ? 16 + MQTT_ACL_SUBSCRIBE_QOS0 : 16 * k + MQTT_ACL_KEPT));
+        CHECK(mqtt_acl_ask_publish(lent, others[k], &c, c.id, 0) == (k < 2 ? 16 + MQTT_ACL_PUBLISH_ALLOWED : 16 * k + MQTT_ACL_KEPT));
+    }
+}
+
 int main(void) {
+    CHECK(mqtt_acl_version() == MQTT_ACL_VERSION);
     unpacks();
     counts();
     nulls();
@@ -335,6 +369,7 @@ int main(void) {
     places();
     absent();
     clients();
-    printf("mqtt_acl.h: %lu checks hold\n", checks);
+    earlier();
+    printf("mqtt_acl.h " MQTT_ACL_VERSION_TEXT ": %lu checks hold\n", checks);
     return 0;
 }

@@ -1,23 +1,33 @@
-/* Access rules of an MQTT broker, for C: the functions of target/staticlib/libmqtt_acl.a (`rt staticlib mqtt_acl`, x86-64).
+/* Access rules of an MQTT broker, for C99 and C++: the functions of libmqtt_acl.a, for x86-64 Linux, System V calling convention.
 
    What the functions answer is proved for any bytes and any numbers (crates/mqtt_acl); this header is tested, not proved. Its sentences
-   are those of the specification, document 01: T is the plugin's tree match, P the per-client rules' plain match.
+   are those of the specification, document 01: T is the plugin's tree match, P the per-client rules' plain match. The code is position
+   independent: it can be linked into a shared object, as a broker's plugin is one.
 
    Memory. All of it is the caller's. A text, and a store, crosses as its address and its length in bytes, without a zero byte at the
-   end. Nothing is kept after a call: no heap, no state between calls, no threads. A text is only read; a store is written by mqtt_acl_open
-   and by the three events, and by nothing else. Calls that only read a store may run at the same time; one that writes it runs alone.
+   end. Nothing is kept after a call: no heap, no state between calls, no threads. A text is only read; a store is written by
+   mqtt_acl_open and by the three events, and by nothing else. Calls that only read a store may run at the same time; one that writes it
+   runs alone.
 
    What the caller owes, since no proof reaches it:
-   - an address from which as many bytes as the length says can be read (a store for mqtt_acl_open and events: written). The length is at
-     most PTRDIFF_MAX. Where it is 0 nothing is read, and the address may be any, NULL too;
-   - nothing else that is lent overlaps the store that mqtt_acl_open or an event writes. Texts may overlap one another, and in a question
-     a text may lie in the store.
+   - an address from which as many bytes as the length says can be read (a store for mqtt_acl_open and events: written). The length is
+     at most PTRDIFF_MAX. Where it is 0 nothing is read, and the address may be any, NULL too;
+   - nothing else that is lent overlaps the store that mqtt_acl_open or an event writes. Texts may overlap one another, and in a
+     question a text may lie in the store.
    Nothing else is owed: a text may hold any bytes, a number be any of its type.
 
    A flag is a uint8_t: 0 is false, every other value true. An answer that is yes or no is 1 or 0.
 
    An optional text is a flag, an address and a length; an optional number a flag and the number. It counts where the flag is true;
    where it is false it is not looked at, and NULL and 0 will do.
+
+   Two layers. The exported functions take addresses and lengths one by one. The inline functions at the end (mqtt_acl_tell_..,
+   mqtt_acl_ask_..) take a store, a client and texts as structs, so that two texts are not easily swapped: use those.
+
+   Between versions. MQTT_ACL_VERSION is that of this header, mqtt_acl_version() that of the library. While the first number is 0, a
+   new second number may change names, arguments and the layout of a store. A new third number changes none of these: it may add
+   functions, refusal numbers from 11 on and the value 15 of mqtt_acl_what: a broker takes what it doesn't know as a denial.
+   A number that has a meaning keeps it. Structs are filled by name, or set to zero first: a member may be added at the end.
 
    Refusals by number, each the first cause in document 01's order; all lent memory is then unchanged. See mqtt_acl_refusal below. */
 #ifndef MQTT_ACL_H
@@ -27,9 +37,20 @@
 #include <stdint.h>
 #include <string.h>
 
+#if !defined(__x86_64__) || !defined(__linux__) || defined(__ILP32__)
+#error "libmqtt_acl.a is for x86-64 Linux"
+#endif
+
 #ifdef __cplusplus
 extern "C" {
 #endif
+
+/* 10,000 times the first number, 100 times the second, and the third. */
+#define MQTT_ACL_VERSION 200
+#define MQTT_ACL_VERSION_TEXT "0.2.0"
+
+/* The version of the library, which is MQTT_ACL_VERSION where header and archive belong together. */
+uint32_t mqtt_acl_version(void);
 
 /* The numbers of document 01, "Refusals by operation". */
 enum mqtt_acl_refusal {
@@ -69,9 +90,9 @@ uint8_t mqtt_acl_is_document_within(const uint8_t *line, size_t line_length, siz
 uint8_t mqtt_acl_rule_refusal(const uint8_t *line, size_t line_length);
 
 /* Do the users that the line's rule lists agree with the client? The values of mqtt_acl_identity_answer. Reads the line and the texts. */
-uint8_t mqtt_acl_identity(const uint8_t *line, size_t line_length, const uint8_t *id, size_t id_length, uint8_t has_name, const uint8_t *name,
-                     size_t name_length, uint8_t has_password, const uint8_t *password, size_t password_length, uint8_t has_address,
-                     const uint8_t *address, size_t address_length, uint8_t has_protocol, uint8_t protocol);
+uint8_t mqtt_acl_identity(const uint8_t *line, size_t line_length, const uint8_t *id, size_t id_length, uint8_t has_name,
+                          const uint8_t *name, size_t name_length, uint8_t has_password, const uint8_t *password, size_t password_length,
+                          uint8_t has_address, const uint8_t *address, size_t address_length, uint8_t has_protocol, uint8_t protocol);
 
 enum mqtt_acl_identity_answer {
     MQTT_ACL_DIFFERS = 0,
@@ -83,16 +104,17 @@ enum mqtt_acl_identity_answer {
 /* ---- A store ---- */
 
 /* Opens a store for a rule text: R is `bytes` (1 to 32,768), F, E and N are `filters`, `eqs` and `notes` (1 to 4,096), and the store's
-   length must be 16 + R + 326F + 260E + 260N (mqtt_acl_store_length). What the bytes were doesn't matter. Writes every byte of the store:
-   the counts, the text, no used row. Answers 0, or the number plus 256 times the line (mqtt_acl_open_refusal, mqtt_acl_open_line): 4; 1 text over
-   R, line 0, or over 256 lines, line 257; then the first faulty line's 1, 5 or 6, lines from 1. At most 66,047. Reads the text. */
+   length must be 16 + R + 326F + 260E + 260N (mqtt_acl_store_length). What the bytes were doesn't matter. Writes every byte of the
+   store: the counts, the text, no used row. Answers 0, or the number plus 256 times the line (mqtt_acl_open_refusal,
+   mqtt_acl_open_line): 4; 1 text over R, line 0, or over 256 lines, line 257; then the first faulty line's 1, 5 or 6, lines from 1. At
+   most 66,047. Reads the text. */
 uint32_t mqtt_acl_open(uint8_t *store, size_t store_length, uint64_t bytes, uint64_t filters, uint64_t eqs, uint64_t notes,
-                  const uint8_t *text, size_t text_length);
+                       const uint8_t *text, size_t text_length);
 
 /* Event: a client has connected. Fills the templates of the rules and adds filter, eq and note rows. Answers 0 done, else the number: 1
    id or name over 64 bytes; 2 session over 255; 3; 7; 8, 9, 10. Reads id and name, reads and writes the store. */
 uint8_t mqtt_acl_connected(uint8_t *store, size_t store_length, uint64_t session, const uint8_t *id, size_t id_length, uint8_t has_name,
-                      const uint8_t *name, size_t name_length);
+                           const uint8_t *name, size_t name_length);
 
 /* Event: a client has disconnected. For each note of the session that is a valid filter, the client's filter rows that T-match it go;
    the notes stay. Answers 0 done, else the number: 1 id over 64 bytes; 2; 3. Reads the id, reads and writes the store. */
@@ -101,59 +123,74 @@ uint8_t mqtt_acl_disconnected(uint8_t *store, size_t store_length, uint64_t sess
 /* Event: a session has ended. Drops its notes. Answers 0 done, else the number: 2, 3. Reads and writes the store. */
 uint8_t mqtt_acl_ended(uint8_t *store, size_t store_length, uint64_t session);
 
-/* The three questions on a store only read. `earlier` is the code of an earlier answer: 0 none; connect 1 allow, 2 not found, 3 bad
-   name or password, 4 not authorized; subscribe and publish 1 allow, 2 rejected. Connect's 3 and 4 and the others' 2 are kept.
-   The answer is 16 times the rule, from 1, or 0 where no rule decides, plus the value of mqtt_acl_what; for a kept code 16 times the code,
-   plus 1; for a refusal 16 times its number. Refused by 1: id or name over 64 bytes, password over 128, address over 45, topic over
-   256; 2: the code, or the QoS; 3. At most 4,111. */
+/* The earlier answer to a connect, by whatever the broker asked before. The last two are kept. */
+enum mqtt_acl_earlier_connect {
+    MQTT_ACL_EARLIER_CONNECT_NONE = 0,
+    MQTT_ACL_EARLIER_CONNECT_ALLOW = 1,
+    MQTT_ACL_EARLIER_CONNECT_NOT_FOUND = 2,
+    MQTT_ACL_EARLIER_CONNECT_BAD_LOGIN = 3, /* bad name or password */
+    MQTT_ACL_EARLIER_CONNECT_NOT_AUTHORIZED = 4
+};
 
-/* May the client connect? MQTT_ACL_KEPT, MQTT_ACL_CONNECT_ALLOWED, MQTT_ACL_CONNECT_SUPERUSER, MQTT_ACL_NOT_AUTHORIZED or MQTT_ACL_REFUSED. Reads the
-   store and the texts, as the next two. */
-uint32_t mqtt_acl_connect(const uint8_t *store, size_t store_length, uint64_t earlier, const uint8_t *id, size_t id_length, uint8_t has_name,
-                     const uint8_t *name, size_t name_length, uint8_t has_password, const uint8_t *password, size_t password_length,
-                     uint8_t has_address, const uint8_t *address, size_t address_length, uint8_t protocol);
+/* The earlier answer to a subscribe or a publish. The last is kept. */
+enum mqtt_acl_earlier {
+    MQTT_ACL_EARLIER_NONE = 0,
+    MQTT_ACL_EARLIER_ALLOW = 1,
+    MQTT_ACL_EARLIER_REJECTED = 2
+};
 
-/* May the client subscribe to the topic? MQTT_ACL_KEPT, MQTT_ACL_SUBSCRIBE_QOS0 to QOS2 (the asked QoS), MQTT_ACL_UNSPECIFIED_ERROR or MQTT_ACL_REFUSED. */
-uint32_t mqtt_acl_subscribe(const uint8_t *store, size_t store_length, uint64_t earlier, const uint8_t *id, size_t id_length, uint8_t has_name,
-                       const uint8_t *name, size_t name_length, uint8_t has_password, const uint8_t *password, size_t password_length,
-                       uint8_t has_address, const uint8_t *address, size_t address_length, uint8_t has_protocol, uint8_t protocol,
-                       const uint8_t *topic, size_t topic_length, uint64_t qos);
+/* The three questions on a store only read. `earlier` is a code of the enums above. The answer is 16 times the rule, from 1, or 0 where
+   no rule decides, plus the value of mqtt_acl_what; for a kept code 16 times the code, plus 1; for an error 16 times its number. Error 1:
+   id or name over 64 bytes, password over 128, address over 45, topic over 256; 2: the code, or the QoS; 3. At most 4,111. */
 
-/* May the client publish to the topic? MQTT_ACL_KEPT, MQTT_ACL_PUBLISH_ALLOWED, MQTT_ACL_PUBLISH_REFUSED, with the caller's disconnect flag
-   MQTT_ACL_PUBLISH_DROPPED, or MQTT_ACL_REFUSED. */
-uint32_t mqtt_acl_publish(const uint8_t *store, size_t store_length, uint64_t earlier, const uint8_t *id, size_t id_length, uint8_t has_name,
-                     const uint8_t *name, size_t name_length, uint8_t has_password, const uint8_t *password, size_t password_length,
-                     uint8_t has_address, const uint8_t *address, size_t address_length, uint8_t has_protocol, uint8_t protocol,
-                     const uint8_t *topic, size_t topic_length, uint8_t disconnect);
+/* May the client connect? MQTT_ACL_KEPT, MQTT_ACL_CONNECT_ALLOWED, MQTT_ACL_CONNECT_SUPERUSER, MQTT_ACL_NOT_AUTHORIZED or
+   MQTT_ACL_ERROR. Reads the store and the texts, as the next two. */
+uint32_t mqtt_acl_connect(const uint8_t *store, size_t store_length, uint64_t earlier, const uint8_t *id, size_t id_length,
+                          uint8_t has_name, const uint8_t *name, size_t name_length, uint8_t has_password, const uint8_t *password,
+                          size_t password_length, uint8_t has_address, const uint8_t *address, size_t address_length, uint8_t protocol);
+
+/* May the client subscribe to the topic? MQTT_ACL_KEPT, MQTT_ACL_SUBSCRIBE_QOS0 to QOS2 (the asked QoS), MQTT_ACL_SUBSCRIBE_REFUSED or
+   MQTT_ACL_ERROR. */
+uint32_t mqtt_acl_subscribe(const uint8_t *store, size_t store_length, uint64_t earlier, const uint8_t *id, size_t id_length,
+                            uint8_t has_name, const uint8_t *name, size_t name_length, uint8_t has_password, const uint8_t *password,
+                            size_t password_length, uint8_t has_address, const uint8_t *address, size_t address_length,
+                            uint8_t has_protocol, uint8_t protocol, const uint8_t *topic, size_t topic_length, uint64_t qos);
+
+/* May the client publish to the topic? MQTT_ACL_KEPT, MQTT_ACL_PUBLISH_ALLOWED, MQTT_ACL_PUBLISH_REFUSED, with the caller's disconnect
+   flag MQTT_ACL_PUBLISH_DROPPED, or MQTT_ACL_ERROR. */
+uint32_t mqtt_acl_publish(const uint8_t *store, size_t store_length, uint64_t earlier, const uint8_t *id, size_t id_length,
+                          uint8_t has_name, const uint8_t *name, size_t name_length, uint8_t has_password, const uint8_t *password,
+                          size_t password_length, uint8_t has_address, const uint8_t *address, size_t address_length,
+                          uint8_t has_protocol, uint8_t protocol, const uint8_t *topic, size_t topic_length, uint8_t disconnect);
 
 /* ---- The rules that came with a client's credentials ---- */
 
 /* Per-client questions: `rules` is a text of at most 32,768 bytes and 256 lines, each an object. The answer is 16 times the rule, from
-   1, or 0 for a superuser, plus the value of mqtt_acl_what; 12 alone where no rule hits; for a refusal 16 times its number and 4,096 times
-   its line: 1 id or name over 64 bytes, topic over 256, text too long, line 0, or over 256 lines, line 257; 2 QoS over 2, line 0; then
-   the first faulty line's 1, 5, 6 or 7. At most 1,052,832. */
+   1, or 0 for a superuser, plus the value of mqtt_acl_what; 12 alone where no rule hits; for a refusal 16 times its number and 4,096
+   times its line: 1 id or name over 64 bytes, topic over 256, text too long, line 0, or over 256 lines, line 257; 2 QoS over 2, line
+   0; then the first faulty line's 1, 5, 6 or 7. At most 1,052,832. */
 
-/* May the client subscribe to the topic, by its rules? MQTT_ACL_SUBSCRIBE_QOS0 to QOS2, MQTT_ACL_NOT_AUTHORIZED, MQTT_ACL_NO_DECISION or MQTT_ACL_REFUSED.
-   Reads the texts. */
+/* May the client subscribe to the topic, by its rules? MQTT_ACL_SUBSCRIBE_QOS0 to QOS2, MQTT_ACL_NOT_AUTHORIZED, MQTT_ACL_NO_DECISION
+   or MQTT_ACL_ERROR. Reads the texts. */
 uint64_t mqtt_acl_client_subscribe(uint8_t superuser, const uint8_t *id, size_t id_length, uint8_t has_name, const uint8_t *name,
-                              size_t name_length, const uint8_t *rules, size_t rules_length, uint64_t qos, const uint8_t *topic,
-                              size_t topic_length);
+                                   size_t name_length, const uint8_t *rules, size_t rules_length, const uint8_t *topic,
+                                   size_t topic_length, uint64_t qos);
 
-/* May the client publish to the topic, by its rules? MQTT_ACL_PUBLISH_ALLOWED, MQTT_ACL_PUBLISH_REFUSED, MQTT_ACL_PUBLISH_DROPPED, MQTT_ACL_NO_DECISION or
-   MQTT_ACL_REFUSED. Reads the texts. */
+/* May the client publish to the topic, by its rules? MQTT_ACL_PUBLISH_ALLOWED, MQTT_ACL_PUBLISH_REFUSED, MQTT_ACL_PUBLISH_DROPPED,
+   MQTT_ACL_NO_DECISION or MQTT_ACL_ERROR. Reads the texts. */
 uint64_t mqtt_acl_client_publish(uint8_t superuser, const uint8_t *id, size_t id_length, uint8_t has_name, const uint8_t *name,
-                            size_t name_length, const uint8_t *rules, size_t rules_length, uint64_t qos, uint8_t retain,
-                            uint8_t disconnect, const uint8_t *topic, size_t topic_length);
+                                 size_t name_length, const uint8_t *rules, size_t rules_length, const uint8_t *topic,
+                                 size_t topic_length, uint64_t qos, uint8_t retain, uint8_t disconnect);
 
-/* Are the credentials expired now? Expiry below now is; equal isn't; none never. MQTT_ACL_VALID, MQTT_ACL_EXPIRED, or MQTT_ACL_REFUSED with number 2:
-   nanoseconds of either time over 999,999,999. Nothing is lent. */
+/* Are the credentials expired now? Expiry below now is; equal isn't; none never. MQTT_ACL_VALID, MQTT_ACL_EXPIRED, or MQTT_ACL_ERROR
+   with number 2: nanoseconds of either time over 999,999,999. Nothing is lent. */
 uint64_t mqtt_acl_expired(uint8_t has_expiry, uint64_t expiry_seconds, uint64_t expiry_nanoseconds, uint64_t seconds, uint64_t nanoseconds);
 
 /* ---- What an answer says ---- */
 
 /* What a question, or mqtt_acl_expired, is answered: mqtt_acl_answer_what. */
 enum mqtt_acl_what {
-    MQTT_ACL_REFUSED = 0,            /* refused by number: mqtt_acl_answer_refusal, and mqtt_acl_answer_line for per-client questions */
+    MQTT_ACL_ERROR = 0,              /* refused by number: mqtt_acl_answer_refusal, mqtt_acl_answer_line */
     MQTT_ACL_KEPT = 1,               /* the earlier answer is kept, rule 0: mqtt_acl_answer_code */
     MQTT_ACL_CONNECT_ALLOWED = 2,    /* allow */
     MQTT_ACL_CONNECT_SUPERUSER = 3,  /* allow, with the superuser flag */
@@ -164,7 +201,7 @@ enum mqtt_acl_what {
     MQTT_ACL_NOT_AUTHORIZED = 8,     /* a refused connect, or a refused per-client subscribe */
     MQTT_ACL_PUBLISH_REFUSED = 9,    /* a refused publish, not authorized, without the disconnect flag */
     MQTT_ACL_PUBLISH_DROPPED = 10,   /* a refused publish, not authorized, with the disconnect flag */
-    MQTT_ACL_UNSPECIFIED_ERROR = 11, /* a refused subscribe on a store */
+    MQTT_ACL_SUBSCRIBE_REFUSED = 11, /* a refused subscribe on a store */
     MQTT_ACL_NO_DECISION = 12,       /* per-client: no rule hits */
     MQTT_ACL_VALID = 13,             /* not expired */
     MQTT_ACL_EXPIRED = 14
@@ -211,7 +248,7 @@ static inline const char *mqtt_acl_answer_word(uint64_t answer) {
     return words[mqtt_acl_answer_what(answer)];
 }
 
-/* ---- The same calls on texts ---- */
+/* ---- The same calls on a store, a client and texts ---- */
 
 /* A lent text, still the caller's. With `bytes` NULL, whatever the length, it is absent: an optional one doesn't count, any other is
    empty. The functions below are inline, each over the call that it names, and return what that returns. */
@@ -219,6 +256,13 @@ typedef struct mqtt_acl_text {
     const void *bytes;
     size_t length;
 } mqtt_acl_text;
+
+/* A store, still the caller's: questions only read it. With `bytes` NULL it is one of no bytes: refused by 4, by events and questions by
+   3, unless an earlier cause gives another. */
+typedef struct mqtt_acl_store {
+    uint8_t *bytes;
+    size_t length;
+} mqtt_acl_store;
 
 /* The text of these bytes; absent for NULL. */
 static inline mqtt_acl_text mqtt_acl_bytes(const void *bytes, size_t length) {
@@ -233,20 +277,37 @@ static inline mqtt_acl_text mqtt_acl_absent(void) { return mqtt_acl_bytes(NULL, 
 /* The text before the string's zero byte; absent for NULL. */
 static inline mqtt_acl_text mqtt_acl_string(const char *string) { return mqtt_acl_bytes(string, string ? strlen(string) : 0); }
 
+/* The store in these bytes. */
+static inline mqtt_acl_store mqtt_acl_store_in(uint8_t *bytes, size_t length) {
+    mqtt_acl_store store;
+    store.bytes = bytes;
+    store.length = bytes ? length : 0;
+    return store;
+}
+
 /* What crosses: the address, the length, and the flag of an optional one. */
 static inline const uint8_t *mqtt_acl_address(mqtt_acl_text text) { return (const uint8_t *)text.bytes; }
 static inline size_t mqtt_acl_length(mqtt_acl_text text) { return text.bytes ? text.length : 0; }
 static inline uint8_t mqtt_acl_given(mqtt_acl_text text) { return text.bytes != NULL; }
+static inline size_t mqtt_acl_lent(mqtt_acl_store store) { return store.bytes ? store.length : 0; }
 
 /* Who asks. */
 typedef struct mqtt_acl_client {
     mqtt_acl_text id;
-    mqtt_acl_text name;        /* optional, as the next two */
+    mqtt_acl_text name; /* optional, as the next two */
     mqtt_acl_text password;
     mqtt_acl_text address;
     uint8_t has_protocol; /* a flag, not looked at by connect, which always has one */
     uint8_t protocol;
 } mqtt_acl_client;
+
+/* Who asks by the rules that came with its credentials. */
+typedef struct mqtt_acl_authinfo {
+    mqtt_acl_text id;
+    mqtt_acl_text name; /* optional */
+    mqtt_acl_text rules;
+    uint8_t superuser; /* a flag */
+} mqtt_acl_authinfo;
 
 /* R, F, E, N: the bytes for the rule text and the rows that each table has room for. */
 typedef struct mqtt_acl_counts {
@@ -261,7 +322,9 @@ static inline size_t mqtt_acl_store_length(mqtt_acl_counts c) {
 }
 
 /* mqtt_acl_valid_filter. */
-static inline uint8_t mqtt_acl_ask_valid_filter(mqtt_acl_text text) { return mqtt_acl_valid_filter(mqtt_acl_address(text), mqtt_acl_length(text)); }
+static inline uint8_t mqtt_acl_ask_valid_filter(mqtt_acl_text text) {
+    return mqtt_acl_valid_filter(mqtt_acl_address(text), mqtt_acl_length(text));
+}
 
 /* mqtt_acl_tree_match. */
 static inline uint8_t mqtt_acl_ask_tree_match(mqtt_acl_text filter, mqtt_acl_text text) {
@@ -274,7 +337,9 @@ static inline uint8_t mqtt_acl_ask_plain_match(mqtt_acl_text filter, mqtt_acl_te
 }
 
 /* mqtt_acl_is_document. */
-static inline uint8_t mqtt_acl_ask_document(mqtt_acl_text line) { return mqtt_acl_is_document(mqtt_acl_address(line), mqtt_acl_length(line)); }
+static inline uint8_t mqtt_acl_ask_document(mqtt_acl_text line) {
+    return mqtt_acl_is_document(mqtt_acl_address(line), mqtt_acl_length(line));
+}
 
 /* mqtt_acl_is_document_within. */
 static inline uint8_t mqtt_acl_ask_document_within(mqtt_acl_text line, size_t most) {
@@ -282,73 +347,81 @@ static inline uint8_t mqtt_acl_ask_document_within(mqtt_acl_text line, size_t mo
 }
 
 /* mqtt_acl_rule_refusal. */
-static inline uint8_t mqtt_acl_ask_rule_refusal(mqtt_acl_text line) { return mqtt_acl_rule_refusal(mqtt_acl_address(line), mqtt_acl_length(line)); }
+static inline uint8_t mqtt_acl_ask_rule_refusal(mqtt_acl_text line) {
+    return mqtt_acl_rule_refusal(mqtt_acl_address(line), mqtt_acl_length(line));
+}
 
 /* mqtt_acl_identity. */
 static inline uint8_t mqtt_acl_ask_identity(mqtt_acl_text line, const mqtt_acl_client *c) {
-    return mqtt_acl_identity(mqtt_acl_address(line), mqtt_acl_length(line), mqtt_acl_address(c->id), mqtt_acl_length(c->id), mqtt_acl_given(c->name),
-                        mqtt_acl_address(c->name), mqtt_acl_length(c->name), mqtt_acl_given(c->password), mqtt_acl_address(c->password),
-                        mqtt_acl_length(c->password), mqtt_acl_given(c->address), mqtt_acl_address(c->address), mqtt_acl_length(c->address),
-                        c->has_protocol, c->protocol);
+    return mqtt_acl_identity(mqtt_acl_address(line), mqtt_acl_length(line), mqtt_acl_address(c->id), mqtt_acl_length(c->id),
+                             mqtt_acl_given(c->name), mqtt_acl_address(c->name), mqtt_acl_length(c->name), mqtt_acl_given(c->password),
+                             mqtt_acl_address(c->password), mqtt_acl_length(c->password), mqtt_acl_given(c->address),
+                             mqtt_acl_address(c->address), mqtt_acl_length(c->address), c->has_protocol, c->protocol);
 }
 
-/* mqtt_acl_open. Here and in what follows a store that is NULL is one of no bytes: refused by 4, by events and questions by 3, unless an
-   earlier cause gives another. */
-static inline uint32_t mqtt_acl_tell_open(uint8_t *store, size_t length, mqtt_acl_counts c, mqtt_acl_text text) {
-    return mqtt_acl_open(store, store ? length : 0, c.bytes, c.filters, c.eqs, c.notes, mqtt_acl_address(text), mqtt_acl_length(text));
+/* mqtt_acl_open. */
+static inline uint32_t mqtt_acl_tell_open(mqtt_acl_store store, mqtt_acl_counts c, mqtt_acl_text text) {
+    return mqtt_acl_open(store.bytes, mqtt_acl_lent(store), c.bytes, c.filters, c.eqs, c.notes, mqtt_acl_address(text),
+                         mqtt_acl_length(text));
 }
 
-/* mqtt_acl_connected. */
-static inline uint8_t mqtt_acl_tell_connected(uint8_t *store, size_t length, uint64_t session, mqtt_acl_text id, mqtt_acl_text name) {
-    return mqtt_acl_connected(store, store ? length : 0, session, mqtt_acl_address(id), mqtt_acl_length(id), mqtt_acl_given(name), mqtt_acl_address(name),
-                         mqtt_acl_length(name));
+/* mqtt_acl_connected, by the client's id and name. */
+static inline uint8_t mqtt_acl_tell_connected(mqtt_acl_store store, uint64_t session, const mqtt_acl_client *c) {
+    return mqtt_acl_connected(store.bytes, mqtt_acl_lent(store), session, mqtt_acl_address(c->id), mqtt_acl_length(c->id),
+                              mqtt_acl_given(c->name), mqtt_acl_address(c->name), mqtt_acl_length(c->name));
 }
 
-/* mqtt_acl_disconnected. */
-static inline uint8_t mqtt_acl_tell_disconnected(uint8_t *store, size_t length, uint64_t session, mqtt_acl_text id) {
-    return mqtt_acl_disconnected(store, store ? length : 0, session, mqtt_acl_address(id), mqtt_acl_length(id));
+/* mqtt_acl_disconnected, by the client's id. */
+static inline uint8_t mqtt_acl_tell_disconnected(mqtt_acl_store store, uint64_t session, const mqtt_acl_client *c) {
+    return mqtt_acl_disconnected(store.bytes, mqtt_acl_lent(store), session, mqtt_acl_address(c->id), mqtt_acl_length(c->id));
 }
 
 /* mqtt_acl_ended. */
-static inline uint8_t mqtt_acl_tell_ended(uint8_t *store, size_t length, uint64_t session) {
-    return mqtt_acl_ended(store, store ? length : 0, session);
+static inline uint8_t mqtt_acl_tell_ended(mqtt_acl_store store, uint64_t session) {
+    return mqtt_acl_ended(store.bytes, mqtt_acl_lent(store), session);
 }
 
 /* mqtt_acl_connect. */
-static inline uint32_t mqtt_acl_ask_connect(mqtt_acl_text store, uint64_t earlier, const mqtt_acl_client *c) {
-    return mqtt_acl_connect(mqtt_acl_address(store), mqtt_acl_length(store), earlier, mqtt_acl_address(c->id), mqtt_acl_length(c->id), mqtt_acl_given(c->name),
-                       mqtt_acl_address(c->name), mqtt_acl_length(c->name), mqtt_acl_given(c->password), mqtt_acl_address(c->password),
-                       mqtt_acl_length(c->password), mqtt_acl_given(c->address), mqtt_acl_address(c->address), mqtt_acl_length(c->address), c->protocol);
+static inline uint32_t mqtt_acl_ask_connect(mqtt_acl_store store, enum mqtt_acl_earlier_connect earlier, const mqtt_acl_client *c) {
+    return mqtt_acl_connect(store.bytes, mqtt_acl_lent(store), (uint64_t)earlier, mqtt_acl_address(c->id), mqtt_acl_length(c->id),
+                            mqtt_acl_given(c->name), mqtt_acl_address(c->name), mqtt_acl_length(c->name), mqtt_acl_given(c->password),
+                            mqtt_acl_address(c->password), mqtt_acl_length(c->password), mqtt_acl_given(c->address),
+                            mqtt_acl_address(c->address), mqtt_acl_length(c->address), c->protocol);
 }
 
 /* mqtt_acl_subscribe. */
-static inline uint32_t mqtt_acl_ask_subscribe(mqtt_acl_text store, uint64_t earlier, const mqtt_acl_client *c, mqtt_acl_text topic, uint64_t qos) {
-    return mqtt_acl_subscribe(mqtt_acl_address(store), mqtt_acl_length(store), earlier, mqtt_acl_address(c->id), mqtt_acl_length(c->id), mqtt_acl_given(c->name),
-                         mqtt_acl_address(c->name), mqtt_acl_length(c->name), mqtt_acl_given(c->password), mqtt_acl_address(c->password),
-                         mqtt_acl_length(c->password), mqtt_acl_given(c->address), mqtt_acl_address(c->address), mqtt_acl_length(c->address),
-                         c->has_protocol, c->protocol, mqtt_acl_address(topic), mqtt_acl_length(topic), qos);
+static inline uint32_t mqtt_acl_ask_subscribe(mqtt_acl_store store, enum mqtt_acl_earlier earlier, const mqtt_acl_client *c,
+                                              mqtt_acl_text topic, uint64_t qos) {
+    return mqtt_acl_subscribe(store.bytes, mqtt_acl_lent(store), (uint64_t)earlier, mqtt_acl_address(c->id), mqtt_acl_length(c->id),
+                              mqtt_acl_given(c->name), mqtt_acl_address(c->name), mqtt_acl_length(c->name), mqtt_acl_given(c->password),
+                              mqtt_acl_address(c->password), mqtt_acl_length(c->password), mqtt_acl_given(c->address),
+                              mqtt_acl_address(c->address), mqtt_acl_length(c->address), c->has_protocol, c->protocol,
+                              mqtt_acl_address(topic), mqtt_acl_length(topic), qos);
 }
 
 /* mqtt_acl_publish. */
-static inline uint32_t mqtt_acl_ask_publish(mqtt_acl_text store, uint64_t earlier, const mqtt_acl_client *c, mqtt_acl_text topic, uint8_t disconnect) {
-    return mqtt_acl_publish(mqtt_acl_address(store), mqtt_acl_length(store), earlier, mqtt_acl_address(c->id), mqtt_acl_length(c->id), mqtt_acl_given(c->name),
-                       mqtt_acl_address(c->name), mqtt_acl_length(c->name), mqtt_acl_given(c->password), mqtt_acl_address(c->password),
-                       mqtt_acl_length(c->password), mqtt_acl_given(c->address), mqtt_acl_address(c->address), mqtt_acl_length(c->address),
-                       c->has_protocol, c->protocol, mqtt_acl_address(topic), mqtt_acl_length(topic), disconnect);
+static inline uint32_t mqtt_acl_ask_publish(mqtt_acl_store store, enum mqtt_acl_earlier earlier, const mqtt_acl_client *c,
+                                            mqtt_acl_text topic, uint8_t disconnect) {
+    return mqtt_acl_publish(store.bytes, mqtt_acl_lent(store), (uint64_t)earlier, mqtt_acl_address(c->id), mqtt_acl_length(c->id),
+                            mqtt_acl_given(c->name), mqtt_acl_address(c->name), mqtt_acl_length(c->name), mqtt_acl_given(c->password),
+                            mqtt_acl_address(c->password), mqtt_acl_length(c->password), mqtt_acl_given(c->address),
+                            mqtt_acl_address(c->address), mqtt_acl_length(c->address), c->has_protocol, c->protocol,
+                            mqtt_acl_address(topic), mqtt_acl_length(topic), disconnect);
 }
 
 /* mqtt_acl_client_subscribe. */
-static inline uint64_t mqtt_acl_ask_client_subscribe(uint8_t superuser, mqtt_acl_text id, mqtt_acl_text name, mqtt_acl_text rules, uint64_t qos,
-                                                mqtt_acl_text topic) {
-    return mqtt_acl_client_subscribe(superuser, mqtt_acl_address(id), mqtt_acl_length(id), mqtt_acl_given(name), mqtt_acl_address(name), mqtt_acl_length(name),
-                                mqtt_acl_address(rules), mqtt_acl_length(rules), qos, mqtt_acl_address(topic), mqtt_acl_length(topic));
+static inline uint64_t mqtt_acl_ask_client_subscribe(const mqtt_acl_authinfo *a, mqtt_acl_text topic, uint64_t qos) {
+    return mqtt_acl_client_subscribe(a->superuser, mqtt_acl_address(a->id), mqtt_acl_length(a->id), mqtt_acl_given(a->name),
+                                     mqtt_acl_address(a->name), mqtt_acl_length(a->name), mqtt_acl_address(a->rules),
+                                     mqtt_acl_length(a->rules), mqtt_acl_address(topic), mqtt_acl_length(topic), qos);
 }
 
 /* mqtt_acl_client_publish. */
-static inline uint64_t mqtt_acl_ask_client_publish(uint8_t superuser, mqtt_acl_text id, mqtt_acl_text name, mqtt_acl_text rules, uint64_t qos, uint8_t retain,
-                                              uint8_t disconnect, mqtt_acl_text topic) {
-    return mqtt_acl_client_publish(superuser, mqtt_acl_address(id), mqtt_acl_length(id), mqtt_acl_given(name), mqtt_acl_address(name), mqtt_acl_length(name),
-                              mqtt_acl_address(rules), mqtt_acl_length(rules), qos, retain, disconnect, mqtt_acl_address(topic), mqtt_acl_length(topic));
+static inline uint64_t mqtt_acl_ask_client_publish(const mqtt_acl_authinfo *a, mqtt_acl_text topic, uint64_t qos, uint8_t retain,
+                                                   uint8_t disconnect) {
+    return mqtt_acl_client_publish(a->superuser, mqtt_acl_address(a->id), mqtt_acl_length(a->id), mqtt_acl_given(a->name),
+                                   mqtt_acl_address(a->name), mqtt_acl_length(a->name), mqtt_acl_address(a->rules),
+                                   mqtt_acl_length(a->rules), mqtt_acl_address(topic), mqtt_acl_length(topic), qos, retain, disconnect);
 }
 
 #ifdef __cplusplus

@@ -6,7 +6,7 @@
 #include "mqtt_acl.h"
 
 static void says(const char *what, uint64_t answer) {
-    if (mqtt_acl_answer_what(answer) == MQTT_ACL_REFUSED)
+    if (mqtt_acl_answer_what(answer) == MQTT_ACL_ERROR)
         printf("%-34s error %u, line %u\n", what, (unsigned)mqtt_acl_answer_refusal(answer), (unsigned)mqtt_acl_answer_line(answer));
     else
         printf("%-34s %s %u\n", what, mqtt_acl_answer_word(answer), (unsigned)mqtt_acl_answer_rule(answer));
@@ -25,39 +25,41 @@ int main(void) {
     const mqtt_acl_text topic = mqtt_acl_string("bench/g7/set");
     const mqtt_acl_client g7 = {{"g7", 2}, {"bo", 2}, {NULL, 0}, {NULL, 0}, 1, 4};
 
-    size_t length = mqtt_acl_store_length(counts);
-    uint8_t *store = (uint8_t *)malloc(length);
-    if (store == NULL) return 1;
+    const size_t length = mqtt_acl_store_length(counts);
+    const mqtt_acl_store store = mqtt_acl_store_in((uint8_t *)malloc(length), length);
+    if (store.bytes == NULL) return 1;
 
     /* A rule text whose second line is no rule, then the right one. */
-    uint32_t opened = mqtt_acl_tell_open(store, length, counts, mqtt_acl_string("[\"deny\",\"all\"]\n[\"perhaps\",\"all\"]\n"));
+    uint32_t opened = mqtt_acl_tell_open(store, counts, mqtt_acl_string("[\"deny\",\"all\"]\n[\"perhaps\",\"all\"]\n"));
     printf("%-34s error %u, line %u\n", "open, a faulty line", (unsigned)mqtt_acl_open_refusal(opened), (unsigned)mqtt_acl_open_line(opened));
-    opened = mqtt_acl_tell_open(store, length, counts, rules);
+    opened = mqtt_acl_tell_open(store, counts, rules);
     printf("%-34s %s, %lu bytes\n", "open", opened == 0 ? "done" : "error", (unsigned long)length);
     if (opened != 0) return 1;
 
-    const mqtt_acl_text lent = mqtt_acl_bytes(store, length);
-    says("connect", mqtt_acl_ask_connect(lent, 0, &g7));
-    says("connect, not authorized before", mqtt_acl_ask_connect(lent, 4, &g7));
-    says("publish before connected", mqtt_acl_ask_publish(lent, 0, &g7, topic, 1));
-    done("connected", mqtt_acl_tell_connected(store, length, 1, g7.id, g7.name));
-    says("publish", mqtt_acl_ask_publish(lent, 0, &g7, topic, 1));
-    says("publish another's", mqtt_acl_ask_publish(lent, 0, &g7, mqtt_acl_string("bench/g8/set"), 0));
-    says("subscribe", mqtt_acl_ask_subscribe(lent, 0, &g7, topic, 1));
-    says("subscribe, QoS 3", mqtt_acl_ask_subscribe(lent, 0, &g7, topic, 3));
-    done("connected, session 256", mqtt_acl_tell_connected(store, length, 256, g7.id, g7.name));
-    done("disconnected", mqtt_acl_tell_disconnected(store, length, 1, g7.id));
-    done("ended", mqtt_acl_tell_ended(store, length, 1));
-    says("publish after disconnected", mqtt_acl_ask_publish(lent, 0, &g7, topic, 1));
+    const enum mqtt_acl_earlier first = MQTT_ACL_EARLIER_NONE;
+    says("connect", mqtt_acl_ask_connect(store, MQTT_ACL_EARLIER_CONNECT_NONE, &g7));
+    says("connect, not authorized before", mqtt_acl_ask_connect(store, MQTT_ACL_EARLIER_CONNECT_NOT_AUTHORIZED, &g7));
+    says("publish before connected", mqtt_acl_ask_publish(store, first, &g7, topic, 1));
+    done("connected", mqtt_acl_tell_connected(store, 1, &g7));
+    says("publish", mqtt_acl_ask_publish(store, first, &g7, topic, 1));
+    says("publish another's", mqtt_acl_ask_publish(store, first, &g7, mqtt_acl_string("bench/g8/set"), 0));
+    says("subscribe", mqtt_acl_ask_subscribe(store, first, &g7, topic, 1));
+    says("subscribe, QoS 3", mqtt_acl_ask_subscribe(store, first, &g7, topic, 3));
+    done("connected, session 256", mqtt_acl_tell_connected(store, 256, &g7));
+    done("disconnected", mqtt_acl_tell_disconnected(store, 1, &g7));
+    done("ended", mqtt_acl_tell_ended(store, 1));
+    says("publish after disconnected", mqtt_acl_ask_publish(store, first, &g7, topic, 1));
 
     /* The rules that came with a client's credentials; NULL is no user name. */
-    const mqtt_acl_text own = mqtt_acl_string("{\"permission\":\"allow\",\"action\":\"publish\",\"topic\":\"bench/${clientid}/#\"}\n"
-                                    "{\"permission\":\"deny\",\"action\":\"subscribe\",\"qos\":2,\"topic\":\"#\"}\n");
-    says("client: publish", mqtt_acl_ask_client_publish(0, g7.id, mqtt_acl_absent(), own, 0, 0, 1, topic));
-    says("client: publish, another topic", mqtt_acl_ask_client_publish(0, g7.id, mqtt_acl_absent(), own, 0, 0, 1, mqtt_acl_string("a/b")));
-    says("client: subscribe, QoS 2", mqtt_acl_ask_client_subscribe(0, g7.id, g7.name, own, 2, topic));
-    says("client: subscribe, a superuser", mqtt_acl_ask_client_subscribe(1, g7.id, g7.name, own, 2, topic));
-    says("client: a line that is no JSON", mqtt_acl_ask_client_subscribe(0, g7.id, g7.name, mqtt_acl_string("{}{"), 0, topic));
+    const mqtt_acl_text lines = mqtt_acl_string("{\"permission\":\"allow\",\"action\":\"publish\",\"topic\":\"bench/${clientid}/#\"}\n"
+                                                "{\"permission\":\"deny\",\"action\":\"subscribe\",\"qos\":2,\"topic\":\"#\"}\n");
+    const mqtt_acl_authinfo own = {g7.id, {NULL, 0}, lines, 0}, root = {g7.id, g7.name, lines, 1},
+                            faulty = {g7.id, g7.name, mqtt_acl_string("{}{"), 0};
+    says("client: publish", mqtt_acl_ask_client_publish(&own, topic, 0, 0, 1));
+    says("client: publish, another topic", mqtt_acl_ask_client_publish(&own, mqtt_acl_string("a/b"), 0, 0, 1));
+    says("client: subscribe, QoS 2", mqtt_acl_ask_client_subscribe(&own, topic, 2));
+    says("client: subscribe, a superuser", mqtt_acl_ask_client_subscribe(&root, topic, 2));
+    says("client: a line that is no JSON", mqtt_acl_ask_client_subscribe(&faulty, topic, 0));
 
     says("expiry 99.5 s, now 99.5 s", mqtt_acl_expired(1, 99, 500000000, 99, 500000000));
     says("expiry 99.5 s, now 100 s", mqtt_acl_expired(1, 99, 500000000, 100, 0));
@@ -65,6 +67,6 @@ int main(void) {
 
     printf("%-34s T %s, P %s\n", "a/# takes a/$b", mqtt_acl_ask_tree_match(mqtt_acl_string("a/#"), mqtt_acl_string("a/$b")) ? "yes" : "no",
            mqtt_acl_ask_plain_match(mqtt_acl_string("a/#"), mqtt_acl_string("a/$b")) ? "yes" : "no");
-    free(store);
+    free(store.bytes);
     return 0;
 }

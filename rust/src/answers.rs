@@ -10,6 +10,7 @@ use crate::sys::{self, Parts};
 /// Why a call is refused: the first cause in document 01's order, "Refusals by operation". All lent memory is
 /// then unchanged.
 #[derive(Clone, Copy, Debug, PartialEq, Eq, Hash)]
+#[non_exhaustive]
 #[repr(u8)]
 pub enum Refusal {
     /// 1: a text over its length, a rule text over its lines, or an array of over 64 topics.
@@ -107,11 +108,40 @@ impl fmt::Display for LineRefusal {
 
 impl Error for LineRefusal {}
 
+/// The earlier answer to a connect, by whatever the broker asked before.
+#[derive(Clone, Copy, Debug, PartialEq, Eq, Hash)]
+#[repr(u8)]
+pub enum EarlierConnect {
+    /// There is none.
+    None = 0,
+    /// Allowed.
+    Allow = 1,
+    /// The client wasn't found.
+    NotFound = 2,
+    /// Bad name or password; kept.
+    BadLogin = 3,
+    /// Not authorized; kept.
+    NotAuthorized = 4,
+}
+
+/// The earlier answer to a subscribe or a publish.
+#[derive(Clone, Copy, Debug, PartialEq, Eq, Hash)]
+#[repr(u8)]
+pub enum Earlier {
+    /// There is none.
+    None = 0,
+    /// Allowed.
+    Allow = 1,
+    /// Rejected; kept.
+    Rejected = 2,
+}
+
 /// May the client connect? The deciding rule's number is from 1, 0 for none.
 #[derive(Clone, Copy, Debug, PartialEq, Eq, Hash)]
+#[non_exhaustive]
 pub enum Connect {
-    /// The earlier answer is kept: 3 bad name or password, 4 not authorized.
-    Kept(u8),
+    /// The earlier answer is kept: bad name or password, or not authorized.
+    Kept(EarlierConnect),
     /// Allowed by the rule.
     Allow {
         /// The deciding rule.
@@ -128,9 +158,10 @@ pub enum Connect {
 
 /// May the client subscribe? The deciding rule's number is from 1, 0 for none.
 #[derive(Clone, Copy, Debug, PartialEq, Eq, Hash)]
+#[non_exhaustive]
 pub enum Subscribe {
-    /// The earlier answer is kept: 2 rejected.
-    Kept(u8),
+    /// The earlier answer is kept: rejected.
+    Kept(Earlier),
     /// Allowed by the rule.
     Allow {
         /// The deciding rule.
@@ -147,9 +178,10 @@ pub enum Subscribe {
 
 /// May the client publish? The deciding rule's number is from 1, 0 for none.
 #[derive(Clone, Copy, Debug, PartialEq, Eq, Hash)]
+#[non_exhaustive]
 pub enum Publish {
-    /// The earlier answer is kept: 2 rejected.
-    Kept(u8),
+    /// The earlier answer is kept: rejected.
+    Kept(Earlier),
     /// Allowed by the rule.
     Allow {
         /// The deciding rule.
@@ -166,6 +198,7 @@ pub enum Publish {
 
 /// May the client subscribe, by its own rules?
 #[derive(Clone, Copy, Debug, PartialEq, Eq, Hash)]
+#[non_exhaustive]
 pub enum ClientSubscribe {
     /// Allowed by the rule, or as a superuser.
     Allow {
@@ -185,6 +218,7 @@ pub enum ClientSubscribe {
 
 /// May the client publish, by its own rules?
 #[derive(Clone, Copy, Debug, PartialEq, Eq, Hash)]
+#[non_exhaustive]
 pub enum ClientPublish {
     /// Allowed by the rule, or as a superuser.
     Allow {
@@ -204,6 +238,7 @@ pub enum ClientPublish {
 
 /// Do the users that a rule lists agree with a client?
 #[derive(Clone, Copy, Debug, PartialEq, Eq, Hash)]
+#[non_exhaustive]
 pub enum Identity {
     /// One of them doesn't.
     Differs,
@@ -226,11 +261,17 @@ impl Parts {
     }
 
     /// The code that is kept.
-    fn kept(self) -> u8 {
+    fn kept_connect(self) -> EarlierConnect {
         match self.code {
-            2 => 2,
-            3 => 3,
-            4 => 4,
+            3 => EarlierConnect::BadLogin,
+            4 => EarlierConnect::NotAuthorized,
+            code => panic!("{code} is no kept code"),
+        }
+    }
+
+    fn kept(self) -> Earlier {
+        match self.code {
+            2 => Earlier::Rejected,
             code => panic!("{code} is no kept code"),
         }
     }
@@ -279,7 +320,7 @@ pub(crate) fn connect(answer: u32) -> Result<Connect, Refusal> {
     let parts = sys::parts(answer.into());
     match parts.what {
         0 => Err(parts.refused()),
-        1 => Ok(Connect::Kept(parts.kept())),
+        1 => Ok(Connect::Kept(parts.kept_connect())),
         2 | 3 if parts.allows => Ok(Connect::Allow { rule: parts.by(), superuser: parts.superuser }),
         8 => Ok(Connect::Refuse { rule: parts.by() }),
         _ => panic!("{answer} is no answer of mqtt_acl_connect"),
@@ -346,8 +387,8 @@ mod tests {
 
     #[test]
     fn a_question_s_numbers() {
-        assert_eq!(connect(16 * 3 + 1), Ok(Connect::Kept(3)));
-        assert_eq!(connect(16 * 4 + 1), Ok(Connect::Kept(4)));
+        assert_eq!(connect(16 * 3 + 1), Ok(Connect::Kept(EarlierConnect::BadLogin)));
+        assert_eq!(connect(16 * 4 + 1), Ok(Connect::Kept(EarlierConnect::NotAuthorized)));
         assert_eq!(connect(16 * 256 + 2), Ok(Connect::Allow { rule: 256, superuser: false }));
         assert_eq!(connect(16 + 3), Ok(Connect::Allow { rule: 1, superuser: true }));
         assert_eq!(connect(8), Ok(Connect::Refuse { rule: 0 }));
@@ -356,9 +397,9 @@ mod tests {
             assert_eq!(subscribe(answer), Ok(Subscribe::Allow { rule: 7, qos: asked }));
             assert_eq!(client_subscribe(answer.into()), Ok(ClientSubscribe::Allow { rule: 7, qos: asked }));
         }
-        assert_eq!(subscribe(16 * 2 + 1), Ok(Subscribe::Kept(2)));
+        assert_eq!(subscribe(16 * 2 + 1), Ok(Subscribe::Kept(Earlier::Rejected)));
         assert_eq!(subscribe(16 * 2 + 11), Ok(Subscribe::Refuse { rule: 2 }));
-        assert_eq!(publish(16 * 2 + 1), Ok(Publish::Kept(2)));
+        assert_eq!(publish(16 * 2 + 1), Ok(Publish::Kept(Earlier::Rejected)));
         assert_eq!(publish(16 * 2 + 7), Ok(Publish::Allow { rule: 2 }));
         assert_eq!(publish(9), Ok(Publish::Refuse { rule: 0, disconnect: false }));
         assert_eq!(publish(10), Ok(Publish::Refuse { rule: 0, disconnect: true }));

@@ -1,5 +1,7 @@
 //! The rules that came with a client's credentials, and whether these still hold.
 
+use std::time::Duration;
+
 use crate::answers::{self, ClientPublish, ClientSubscribe, LineRefusal, Refusal};
 use crate::sys;
 
@@ -20,20 +22,20 @@ pub struct AuthInfo<'a> {
 impl AuthInfo<'_> {
     /// May the client subscribe to the topic, with this QoS? Refused by 1 or 2, line 0 or 257, else by the
     /// first faulty line's 1, 5, 6, 7.
-    pub fn subscribe(self, qos: u64, topic: &[u8]) -> Result<ClientSubscribe, LineRefusal> {
-        answers::client_subscribe(sys::client_subscribe(self, qos, topic))
+    pub fn subscribe(self, topic: &[u8], qos: u64) -> Result<ClientSubscribe, LineRefusal> {
+        answers::client_subscribe(sys::client_subscribe(self, topic, qos))
     }
 
     /// May the client publish to the topic? Refused as above. A refusal by a rule carries the disconnect
     /// flag.
     pub fn publish(
         self,
+        topic: &[u8],
         qos: u64,
         retain: bool,
         disconnect: bool,
-        topic: &[u8],
     ) -> Result<ClientPublish, LineRefusal> {
-        answers::client_publish(sys::client_publish(self, qos, retain, disconnect, topic))
+        answers::client_publish(sys::client_publish(self, topic, qos, retain, disconnect))
     }
 }
 
@@ -44,6 +46,13 @@ pub struct Time {
     pub seconds: u64,
     /// Nanoseconds, at most 999,999,999.
     pub nanoseconds: u64,
+}
+
+/// What a clock says since the epoch: `SystemTime::now().duration_since(UNIX_EPOCH)`.
+impl From<Duration> for Time {
+    fn from(since: Duration) -> Time {
+        Time { seconds: since.as_secs(), nanoseconds: since.subsec_nanos().into() }
+    }
 }
 
 /// Are the credentials expired now? An expiry below now is; an equal one isn't; none never. Refused by 2.

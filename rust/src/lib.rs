@@ -17,7 +17,7 @@
 //! may be lent everywhere: nothing is read from its address.
 //!
 //! ```
-//! use mqtt_acl::{Client, Connect, Counts, Publish, Store};
+//! use mqtt_acl::{Client, Connect, Counts, Earlier, EarlierConnect, Publish, Store};
 //!
 //! let rules = br#"["allow",{"user":"bo"},"publish",["bench/%c/set"]]
 //! ["deny","all","pubsub"]
@@ -25,20 +25,28 @@
 //! let mut store = Store::open(Counts::new(2048, 64, 32, 64)?, rules)?;
 //! let g7 = Client { id: b"g7", name: Some(b"bo"), ..Client::default() };
 //!
-//! assert_eq!(store.connect(0, g7, 4)?, Connect::Refuse { rule: 0 });
+//! assert_eq!(store.connect(EarlierConnect::None, g7, 4)?, Connect::Refuse { rule: 0 });
 //! store.connected(1, b"g7", Some(b"bo"))?;
-//! assert_eq!(store.publish(0, g7, Some(4), b"bench/g7/set", true)?, Publish::Allow { rule: 1 });
+//! let answer = store.publish(Earlier::None, g7, Some(4), b"bench/g7/set", true)?;
+//! assert_eq!(answer, Publish::Allow { rule: 1 });
 //! # Ok::<(), Box<dyn std::error::Error>>(())
 //! ```
 //!
 //! # Building
 //!
-//! `rt staticlib mqtt_acl` in the repository proves the functions and writes target/staticlib/libmqtt_acl.a, for
-//! x86-64. build.rs links it from there, or from the folder that the environment variable `MQTT_ACL_LIB` names.
+//! For x86-64 Linux alone; another target is refused. build.rs asks `bin/build mqtt_acl` of the repository, which
+//! proves and writes what changed, or links the libmqtt_acl.a of the folder that the environment variable
+//! `MQTT_ACL_LIB` names.
+//!
+//! # Between versions
+//!
+//! While the first number is 0, a new second number may change names, arguments and the layout of a store. A new
+//! third number changes none of these: it may add calls, refusals and answers, for which the enums are
+//! `#[non_exhaustive]`; take one that isn't known as a refusal. [`version`] is that of the library that is linked.
 #![deny(missing_docs, unsafe_code, unsafe_op_in_unsafe_fn)]
 
-#[cfg(not(all(target_arch = "x86_64", target_pointer_width = "64")))]
-compile_error!("libmqtt_acl.a is for x86-64");
+#[cfg(not(all(target_arch = "x86_64", target_os = "linux", target_pointer_width = "64")))]
+compile_error!("libmqtt_acl.a is for x86-64 Linux");
 
 mod answers;
 mod authinfo;
@@ -48,10 +56,16 @@ mod store;
 mod sys;
 
 pub use answers::{
-    ClientPublish, ClientSubscribe, Connect, Identity, LineRefusal, Publish, Refusal, Subscribe,
+    ClientPublish, ClientSubscribe, Connect, Earlier, EarlierConnect, Identity, LineRefusal, Publish,
+    Refusal, Subscribe,
 };
 pub use authinfo::{expired, AuthInfo, Time};
 pub use line::{
     check_rule, identity, is_document, is_document_within, plain_match, tree_match, valid_filter,
 };
 pub use store::{Client, Counts, Store};
+
+/// The version of the library that is linked: 10,000 times its first number, 100 times its second, and its third.
+pub fn version() -> u32 {
+    sys::version()
+}

@@ -2,7 +2,7 @@
 
 use std::fmt;
 
-use crate::answers::{self, Connect, LineRefusal, Publish, Refusal, Subscribe};
+use crate::answers::{self, Connect, Earlier, EarlierConnect, LineRefusal, Publish, Refusal, Subscribe};
 use crate::sys;
 
 /// R, F, E, N: the bytes for the rule text and the rows that each table has room for, all in range.
@@ -70,9 +70,7 @@ impl fmt::Debug for Client<'_> {
 
 /// A store. Its bytes are its own; each event and question is one call on them.
 ///
-/// `earlier`, of a question, is the code of an earlier answer: 0 none; connect 1 allow, 2 not found, 3 bad
-/// name or password, 4 not authorized; subscribe and publish 1 allow, 2 rejected. Connect's 3 and 4 and the
-/// others' 2 are kept.
+/// `earlier`, of a question, is the answer of whatever the broker asked before: a refusal is kept.
 #[derive(Clone, PartialEq, Eq)]
 pub struct Store {
     bytes: Vec<u8>,
@@ -134,33 +132,38 @@ impl Store {
     }
 
     /// May the client connect? Refused by 1, 2, 3.
-    pub fn connect(&self, earlier: u64, client: Client<'_>, protocol: u8) -> Result<Connect, Refusal> {
-        answers::connect(sys::connect(&self.bytes, earlier, client, protocol))
+    pub fn connect(
+        &self,
+        earlier: EarlierConnect,
+        client: Client<'_>,
+        protocol: u8,
+    ) -> Result<Connect, Refusal> {
+        answers::connect(sys::connect(&self.bytes, earlier as u64, client, protocol))
     }
 
     /// May the client subscribe to the topic, with this QoS? Refused by 1, 2, 3.
     pub fn subscribe(
         &self,
-        earlier: u64,
+        earlier: Earlier,
         client: Client<'_>,
         protocol: Option<u8>,
         topic: &[u8],
         qos: u64,
     ) -> Result<Subscribe, Refusal> {
-        answers::subscribe(sys::subscribe(&self.bytes, earlier, client, protocol, topic, qos))
+        answers::subscribe(sys::subscribe(&self.bytes, earlier as u64, client, protocol, topic, qos))
     }
 
     /// May the client publish to the topic? A refusal by a rule, or by none, carries the disconnect flag.
     /// Refused by 1, 2, 3.
     pub fn publish(
         &self,
-        earlier: u64,
+        earlier: Earlier,
         client: Client<'_>,
         protocol: Option<u8>,
         topic: &[u8],
         disconnect: bool,
     ) -> Result<Publish, Refusal> {
-        answers::publish(sys::publish(&self.bytes, earlier, client, protocol, topic, disconnect))
+        answers::publish(sys::publish(&self.bytes, earlier as u64, client, protocol, topic, disconnect))
     }
 }
 

@@ -13,6 +13,7 @@ use crate::{AuthInfo, Client};
 
 mod exported {
     extern "C" {
+        pub fn mqtt_acl_version() -> u32;
         pub fn mqtt_acl_valid_filter(text: *const u8, text_length: usize) -> u8;
         pub fn mqtt_acl_tree_match(
             filter: *const u8,
@@ -142,9 +143,9 @@ mod exported {
             name_length: usize,
             rules: *const u8,
             rules_length: usize,
-            qos: u64,
             topic: *const u8,
             topic_length: usize,
+            qos: u64,
         ) -> u64;
         pub fn mqtt_acl_client_publish(
             superuser: u8,
@@ -155,11 +156,11 @@ mod exported {
             name_length: usize,
             rules: *const u8,
             rules_length: usize,
+            topic: *const u8,
+            topic_length: usize,
             qos: u64,
             retain: u8,
             disconnect: u8,
-            topic: *const u8,
-            topic_length: usize,
         ) -> u64;
         pub fn mqtt_acl_expired(
             has_expiry: u8,
@@ -186,6 +187,11 @@ mod exported {
 fn lent(text: Option<&[u8]>) -> (u8, *const u8, usize) {
     let bytes = text.unwrap_or(&[]);
     (text.is_some().into(), bytes.as_ptr(), bytes.len())
+}
+
+pub(crate) fn version() -> u32 {
+    // SAFETY: a number alone.
+    unsafe { exported::mqtt_acl_version() }
 }
 
 pub(crate) fn valid_filter(text: &[u8]) -> bool {
@@ -391,7 +397,7 @@ pub(crate) fn publish(
     }
 }
 
-pub(crate) fn client_subscribe(owner: AuthInfo<'_>, qos: u64, topic: &[u8]) -> u64 {
+pub(crate) fn client_subscribe(owner: AuthInfo<'_>, topic: &[u8], qos: u64) -> u64 {
     let (has_name, name, name_length) = lent(owner.name);
     // SAFETY: see the module; the function only reads.
     unsafe {
@@ -404,19 +410,19 @@ pub(crate) fn client_subscribe(owner: AuthInfo<'_>, qos: u64, topic: &[u8]) -> u
             name_length,
             owner.rules.as_ptr(),
             owner.rules.len(),
-            qos,
             topic.as_ptr(),
             topic.len(),
+            qos,
         )
     }
 }
 
 pub(crate) fn client_publish(
     owner: AuthInfo<'_>,
+    topic: &[u8],
     qos: u64,
     retain: bool,
     disconnect: bool,
-    topic: &[u8],
 ) -> u64 {
     let (has_name, name, name_length) = lent(owner.name);
     // SAFETY: see the module; the function only reads.
@@ -430,11 +436,11 @@ pub(crate) fn client_publish(
             name_length,
             owner.rules.as_ptr(),
             owner.rules.len(),
+            topic.as_ptr(),
+            topic.len(),
             qos,
             retain.into(),
             disconnect.into(),
-            topic.as_ptr(),
-            topic.len(),
         )
     }
 }
@@ -513,8 +519,8 @@ mod tests {
             assert_eq!(mqtt_acl_connect(n, 0, 0, n, 0, 1, n, 0, 1, n, 0, 1, n, 0, 0), three);
             assert_eq!(mqtt_acl_subscribe(n, 0, 0, n, 0, 1, n, 0, 1, n, 0, 1, n, 0, 1, 0, n, 0, 0), three);
             assert_eq!(mqtt_acl_publish(n, 0, 0, n, 0, 1, n, 0, 1, n, 0, 1, n, 0, 1, 0, n, 0, 1), three);
-            assert_eq!(mqtt_acl_client_subscribe(0, n, 0, 1, n, 0, n, 0, 0, n, 0), 12);
-            assert_eq!(mqtt_acl_client_publish(1, n, 0, 1, n, 0, n, 0, 0, 1, 1, n, 0), 7);
+            assert_eq!(mqtt_acl_client_subscribe(0, n, 0, 1, n, 0, n, 0, n, 0, 0), 12);
+            assert_eq!(mqtt_acl_client_publish(1, n, 0, 1, n, 0, n, 0, n, 0, 0, 1, 1), 7);
         }
     }
 
@@ -578,17 +584,31 @@ mod tests {
                 );
                 assert_eq!(mqtt_acl_publish(s, k, 0, x, 1, 0, x, 1, 0, x, 1, 0, x, 1, 0, 4, x, 1, f), 9 + is);
                 assert_eq!(
-                    mqtt_acl_client_subscribe(f, x, 1, 1, x, 1, o, own.len(), 1, x, 1),
+                    mqtt_acl_client_subscribe(f, x, 1, 1, x, 1, o, own.len(), x, 1, 1),
                     by(5, 12).into()
                 );
                 assert_eq!(
-                    mqtt_acl_client_publish(f, x, 1, 1, x, 1, o, own.len(), 1, 0, 0, x, 1),
+                    mqtt_acl_client_publish(f, x, 1, 1, x, 1, o, own.len(), x, 1, 1, 0, 0),
                     by(7, 12).into()
                 );
-                let refused = mqtt_acl_client_publish(0, x, 1, f, x, 1, o, own.len(), 1, f, f, x, 1);
+                let refused = mqtt_acl_client_publish(0, x, 1, f, x, 1, o, own.len(), x, 1, 1, f, f);
                 assert_eq!(refused, by(16 + 10, 16 * (6 + 256)).into());
                 assert_eq!(mqtt_acl_expired(f, 0, 0, 1, 0), by(14, 13).into());
             }
+        }
+    }
+
+    /// An earlier code that is none: its last good value, those past it, and the largest.
+    #[test]
+    fn earlier_codes() {
+        let mut store = [0; 16 + 1 + 326 + 260 + 260];
+        assert_eq!(open(&mut store, [1, 1, 1, 1], b""), 0);
+        let who = Client::default();
+        for past in [0, 1, 1 << 8, 1 << 16, 1 << 32, 1 << 63, u64::MAX - 4] {
+            let by = if past == 0 { 0 } else { 2 };
+            assert_eq!(parts(connect(&store, 4 + past, who, 4).into()).refusal, by);
+            assert_eq!(parts(subscribe(&store, 2 + past, who, None, b"a", 0).into()).refusal, by);
+            assert_eq!(parts(publish(&store, 2 + past, who, None, b"a", true).into()).refusal, by);
         }
     }
 

@@ -2,8 +2,8 @@
 
 use mqtt_acl::{
     check_rule, expired, identity, is_document, is_document_within, plain_match, tree_match, valid_filter,
-    AuthInfo, Client, ClientPublish, ClientSubscribe, Connect, Counts, Identity, LineRefusal, Publish,
-    Refusal, Store, Subscribe, Time,
+    version, AuthInfo, Client, ClientPublish, ClientSubscribe, Connect, Counts, Earlier, EarlierConnect,
+    Identity, LineRefusal, Publish, Refusal, Store, Subscribe, Time,
 };
 
 const EXAMPLE: &[u8] = br#"["allow",{"user":"bo"},"publish",["bench/%c/set"]]
@@ -25,10 +25,10 @@ fn at(refusal: Refusal, line: u16) -> LineRefusal {
 fn document_01_s_example() {
     let mut store = opened(EXAMPLE);
     assert_eq!(store.as_bytes().len(), 47_888);
-    let publish = |store: &Store| store.publish(0, G7, Some(4), b"bench/g7/set", true);
+    let publish = |store: &Store| store.publish(Earlier::None, G7, Some(4), b"bench/g7/set", true);
     let dropped = Ok(Publish::Refuse { rule: 2, disconnect: true });
 
-    assert_eq!(store.connect(0, G7, 4), Ok(Connect::Refuse { rule: 0 }));
+    assert_eq!(store.connect(EarlierConnect::None, G7, 4), Ok(Connect::Refuse { rule: 0 }));
     assert_eq!(publish(&store), dropped);
     assert_eq!(store.connected(1, b"g7", Some(b"bo")), Ok(()));
     assert_eq!(publish(&store), Ok(Publish::Allow { rule: 1 }));
@@ -50,25 +50,28 @@ fn every_answer_of_a_question() {
     );
     let root = Client { id: b"r", name: Some(b"root"), ..Client::default() };
     let nobody = Client { id: b"n", ..Client::default() };
-    assert_eq!(store.connect(0, root, 4), Ok(Connect::Allow { rule: 1, superuser: true }));
-    assert_eq!(store.connect(1, G7, 4), Ok(Connect::Allow { rule: 2, superuser: false }));
-    assert_eq!(store.connect(2, nobody, 4), Ok(Connect::Refuse { rule: 0 }));
-    assert_eq!(store.connect(3, G7, 4), Ok(Connect::Kept(3)));
-    assert_eq!(store.connect(4, G7, 4), Ok(Connect::Kept(4)));
+    assert_eq!(store.connect(EarlierConnect::None, root, 4), Ok(Connect::Allow { rule: 1, superuser: true }));
+    assert_eq!(store.connect(EarlierConnect::Allow, G7, 4), Ok(Connect::Allow { rule: 2, superuser: false }));
+    assert_eq!(store.connect(EarlierConnect::NotFound, nobody, 4), Ok(Connect::Refuse { rule: 0 }));
+    assert_eq!(store.connect(EarlierConnect::BadLogin, G7, 4), Ok(Connect::Kept(EarlierConnect::BadLogin)));
+    assert_eq!(
+        store.connect(EarlierConnect::NotAuthorized, G7, 4),
+        Ok(Connect::Kept(EarlierConnect::NotAuthorized))
+    );
 
     for qos in 0..=2u8 {
-        let answer = store.subscribe(0, G7, None, b"a", qos.into());
+        let answer = store.subscribe(Earlier::None, G7, None, b"a", qos.into());
         assert_eq!(answer, Ok(Subscribe::Allow { rule: 2, qos }));
     }
-    assert_eq!(store.subscribe(1, root, None, b"a", 0), Ok(Subscribe::Refuse { rule: 0 }));
-    assert_eq!(store.subscribe(2, G7, None, b"a", 0), Ok(Subscribe::Kept(2)));
+    assert_eq!(store.subscribe(Earlier::Allow, root, None, b"a", 0), Ok(Subscribe::Refuse { rule: 0 }));
+    assert_eq!(store.subscribe(Earlier::Rejected, G7, None, b"a", 0), Ok(Subscribe::Kept(Earlier::Rejected)));
 
-    assert_eq!(store.publish(1, G7, None, b"a", true), Ok(Publish::Allow { rule: 2 }));
+    assert_eq!(store.publish(Earlier::Allow, G7, None, b"a", true), Ok(Publish::Allow { rule: 2 }));
     for disconnect in [false, true] {
-        let answer = store.publish(0, nobody, None, b"a", disconnect);
+        let answer = store.publish(Earlier::None, nobody, None, b"a", disconnect);
         assert_eq!(answer, Ok(Publish::Refuse { rule: 0, disconnect }));
     }
-    assert_eq!(store.publish(2, G7, None, b"a", true), Ok(Publish::Kept(2)));
+    assert_eq!(store.publish(Earlier::Rejected, G7, None, b"a", true), Ok(Publish::Kept(Earlier::Rejected)));
 }
 
 /// Each text, and the protocol, goes to its own place in each of the four calls that take a client.
@@ -93,11 +96,11 @@ fn each_text_to_its_place() {
             let store = opened(rule);
             let expected = if agrees { Identity::Agrees { superuser: false } } else { Identity::Differs };
             assert_eq!(identity(rule, client, Some(protocol)), expected);
-            let connected = store.connect(0, client, protocol).unwrap();
+            let connected = store.connect(EarlierConnect::None, client, protocol).unwrap();
             assert_eq!(connected == Connect::Allow { rule: 1, superuser: false }, agrees);
-            let subscribed = store.subscribe(0, client, Some(protocol), b"t", 1).unwrap();
+            let subscribed = store.subscribe(Earlier::None, client, Some(protocol), b"t", 1).unwrap();
             assert_eq!(subscribed == Subscribe::Allow { rule: 1, qos: 1 }, agrees);
-            let published = store.publish(0, client, Some(protocol), b"t", false).unwrap();
+            let published = store.publish(Earlier::None, client, Some(protocol), b"t", false).unwrap();
             assert_eq!(published == Publish::Allow { rule: 1 }, agrees);
         }
     }
@@ -127,11 +130,11 @@ fn absent_is_not_empty() {
         for (rule, client, protocol) in cases {
             let store = opened(rule);
             assert_eq!(identity(rule, client, protocol) == Identity::Agrees { superuser: false }, given);
-            let connected = store.connect(0, client, protocol.unwrap_or(3)).unwrap();
+            let connected = store.connect(EarlierConnect::None, client, protocol.unwrap_or(3)).unwrap();
             assert_eq!(connected == Connect::Allow { rule: 1, superuser: false }, given);
-            let subscribed = store.subscribe(0, client, protocol, b"t", 1).unwrap();
+            let subscribed = store.subscribe(Earlier::None, client, protocol, b"t", 1).unwrap();
             assert_eq!(subscribed == Subscribe::Allow { rule: 1, qos: 1 }, given);
-            let published = store.publish(0, client, protocol, b"t", false).unwrap();
+            let published = store.publish(Earlier::None, client, protocol, b"t", false).unwrap();
             assert_eq!(published == Publish::Allow { rule: 1 }, given);
         }
     }
@@ -192,15 +195,18 @@ fn a_store_of_another_length() {
         assert_eq!(store.connected(0, b"a", None), Err(Refusal::Malformed));
         assert_eq!(store.disconnected(0, b"a"), Err(Refusal::Malformed));
         assert_eq!(store.ended(0), Err(Refusal::Malformed));
-        assert_eq!(store.connect(4, G7, 4), Err(Refusal::Malformed));
-        assert_eq!(store.subscribe(0, G7, None, b"a", 0), Err(Refusal::Malformed));
-        assert_eq!(store.publish(0, G7, None, b"a", true), Err(Refusal::Malformed));
+        assert_eq!(store.connect(EarlierConnect::NotAuthorized, G7, 4), Err(Refusal::Malformed));
+        assert_eq!(store.subscribe(Earlier::None, G7, None, b"a", 0), Err(Refusal::Malformed));
+        assert_eq!(store.publish(Earlier::None, G7, None, b"a", true), Err(Refusal::Malformed));
         assert_eq!(store, before);
     }
     let mut longer = Store::from_bytes([whole.as_slice(), b"\0"].concat());
     assert_eq!(longer.ended(0), Err(Refusal::Malformed));
     assert_eq!(longer.reopen(counts, EXAMPLE), Err(at(Refusal::Counts, 0)));
-    assert_eq!(Store::from_bytes(whole).connect(4, G7, 4), Ok(Connect::Kept(4)));
+    assert_eq!(
+        Store::from_bytes(whole).connect(EarlierConnect::NotAuthorized, G7, 4),
+        Ok(Connect::Kept(EarlierConnect::NotAuthorized))
+    );
 }
 
 /// Each length at its limit and one past it, in each call that takes the text.
@@ -224,29 +230,29 @@ fn lengths() {
             let judge = |refusal: Option<Refusal>| {
                 assert_eq!(refusal, if fits { None } else { Some(Refusal::TooLong) }, "{place} {length}")
             };
-            judge(store.connect(0, client, 4).err());
-            judge(store.subscribe(0, client, None, b"a", 0).err());
-            judge(store.publish(0, client, None, b"a", true).err());
+            judge(store.connect(EarlierConnect::None, client, 4).err());
+            judge(store.subscribe(Earlier::None, client, None, b"a", 0).err());
+            judge(store.publish(Earlier::None, client, None, b"a", true).err());
             if place == 0 {
                 judge(store.disconnected(1, client.id).err());
             }
             if place < 2 {
                 judge(store.connected(1, client.id, client.name).err());
                 let own = AuthInfo { id: client.id, name: client.name, ..AuthInfo::default() };
-                judge(own.subscribe(0, b"a").err().map(|r| r.refusal));
-                judge(own.publish(0, false, false, b"a").err().map(|r| r.refusal));
+                judge(own.subscribe(b"a", 0).err().map(|r| r.refusal));
+                judge(own.publish(b"a", 0, false, false).err().map(|r| r.refusal));
             }
         }
     }
     let own = AuthInfo { id: b"a", ..AuthInfo::default() };
-    assert!(store.subscribe(0, none, None, &long[..256], 0).is_ok());
-    assert_eq!(store.subscribe(0, none, None, &long, 0), Err(Refusal::TooLong));
-    assert!(store.publish(0, none, None, &long[..256], true).is_ok());
-    assert_eq!(store.publish(0, none, None, &long, true), Err(Refusal::TooLong));
-    assert_eq!(own.subscribe(0, &long[..256]), Ok(ClientSubscribe::NoDecision));
-    assert_eq!(own.subscribe(0, &long), Err(at(Refusal::TooLong, 0)));
-    assert_eq!(own.publish(0, false, false, &long[..256]), Ok(ClientPublish::NoDecision));
-    assert_eq!(own.publish(0, false, false, &long), Err(at(Refusal::TooLong, 0)));
+    assert!(store.subscribe(Earlier::None, none, None, &long[..256], 0).is_ok());
+    assert_eq!(store.subscribe(Earlier::None, none, None, &long, 0), Err(Refusal::TooLong));
+    assert!(store.publish(Earlier::None, none, None, &long[..256], true).is_ok());
+    assert_eq!(store.publish(Earlier::None, none, None, &long, true), Err(Refusal::TooLong));
+    assert_eq!(own.subscribe(&long[..256], 0), Ok(ClientSubscribe::NoDecision));
+    assert_eq!(own.subscribe(&long, 0), Err(at(Refusal::TooLong, 0)));
+    assert_eq!(own.publish(&long[..256], 0, false, false), Ok(ClientPublish::NoDecision));
+    assert_eq!(own.publish(&long, 0, false, false), Err(at(Refusal::TooLong, 0)));
 }
 
 /// Each number that can be refused: its last good value, the next, and the largest.
@@ -263,12 +269,9 @@ fn numbers() {
     ok_then_2(255, &mut |n| store.connected(n, b"a", None).err());
     ok_then_2(255, &mut |n| store.disconnected(n, b"a").err());
     ok_then_2(255, &mut |n| store.ended(n).err());
-    ok_then_2(4, &mut |n| store.connect(n, G7, 4).err());
-    ok_then_2(2, &mut |n| store.subscribe(n, G7, None, b"a", 0).err());
-    ok_then_2(2, &mut |n| store.subscribe(0, G7, None, b"a", n).err());
-    ok_then_2(2, &mut |n| store.publish(n, G7, None, b"a", true).err());
-    ok_then_2(2, &mut |n| own.subscribe(n, b"a").err().map(|r| r.refusal));
-    ok_then_2(2, &mut |n| own.publish(n, true, true, b"a").err().map(|r| r.refusal));
+    ok_then_2(2, &mut |n| store.subscribe(Earlier::None, G7, None, b"a", n).err());
+    ok_then_2(2, &mut |n| own.subscribe(b"a", n).err().map(|r| r.refusal));
+    ok_then_2(2, &mut |n| own.publish(b"a", n, true, true).err().map(|r| r.refusal));
     let time = |nanoseconds| Time { seconds: u64::MAX, nanoseconds };
     ok_then_2(999_999_999, &mut |n| expired(Some(time(n)), time(0)).err());
     ok_then_2(999_999_999, &mut |n| expired(Some(time(0)), time(n)).err());
@@ -295,16 +298,22 @@ fn empty_slices() {
     let mut store = opened(b"");
     assert_eq!(store.connected(0, b"", Some(b"")), Ok(()));
     assert_eq!(store.disconnected(0, b""), Ok(()));
-    assert_eq!(store.connect(0, Client::default(), 0), Ok(Connect::Refuse { rule: 0 }));
+    assert_eq!(store.connect(EarlierConnect::None, Client::default(), 0), Ok(Connect::Refuse { rule: 0 }));
     let refused = Publish::Refuse { rule: 0, disconnect: false };
-    assert_eq!(store.publish(0, Client::default(), None, b"", false), Ok(refused));
-    assert_eq!(store.subscribe(0, Client::default(), None, b"", 0), Ok(Subscribe::Refuse { rule: 0 }));
+    assert_eq!(store.publish(Earlier::None, Client::default(), None, b"", false), Ok(refused));
+    assert_eq!(
+        store.subscribe(Earlier::None, Client::default(), None, b"", 0),
+        Ok(Subscribe::Refuse { rule: 0 })
+    );
     let all = opened(br#"["allow","all","all",[""]]"#);
-    assert_eq!(all.publish(0, Client::default(), None, b"", false), Ok(Publish::Allow { rule: 1 }));
+    assert_eq!(
+        all.publish(Earlier::None, Client::default(), None, b"", false),
+        Ok(Publish::Allow { rule: 1 })
+    );
 
-    assert_eq!(AuthInfo::default().subscribe(0, b""), Ok(ClientSubscribe::NoDecision));
+    assert_eq!(AuthInfo::default().subscribe(b"", 0), Ok(ClientSubscribe::NoDecision));
     let root = AuthInfo { superuser: true, ..AuthInfo::default() };
-    assert_eq!(root.publish(0, false, false, b""), Ok(ClientPublish::Allow { rule: 0 }));
+    assert_eq!(root.publish(b"", 0, false, false), Ok(ClientPublish::Allow { rule: 0 }));
 }
 
 /// Document 01's marked examples of matching.
@@ -329,23 +338,23 @@ fn a_client_s_own_rules() {
 {"permission":"allow","action":"subscribe","topic":"#"}
 "##;
     let g7 = AuthInfo { superuser: false, id: b"g7", name: Some(b"bo"), rules };
-    let publish = |qos, retain, topic: &[u8]| g7.publish(qos, retain, true, topic);
+    let publish = |qos, retain, topic: &[u8]| g7.publish(topic, qos, retain, true);
     assert_eq!(publish(0, false, b"bench/g7/set"), Ok(ClientPublish::Allow { rule: 1 }));
     assert_eq!(publish(0, true, b"bench/g7/set"), Ok(ClientPublish::NoDecision));
     assert_eq!(publish(2, false, b"bench/g7/set"), Ok(ClientPublish::NoDecision));
     assert_eq!(publish(0, false, b"bench/g7/$step"), Ok(ClientPublish::NoDecision));
     assert_eq!(publish(0, false, b"bo"), Ok(ClientPublish::Refuse { rule: 2, disconnect: true }));
-    assert_eq!(g7.publish(0, false, false, b"bo"), Ok(ClientPublish::Refuse { rule: 2, disconnect: false }));
-    assert_eq!(g7.subscribe(2, b"a"), Ok(ClientSubscribe::Refuse { rule: 3 }));
-    assert_eq!(g7.subscribe(1, b"a"), Ok(ClientSubscribe::Allow { rule: 4, qos: 1 }));
+    assert_eq!(g7.publish(b"bo", 0, false, false), Ok(ClientPublish::Refuse { rule: 2, disconnect: false }));
+    assert_eq!(g7.subscribe(b"a", 2), Ok(ClientSubscribe::Refuse { rule: 3 }));
+    assert_eq!(g7.subscribe(b"a", 1), Ok(ClientSubscribe::Allow { rule: 4, qos: 1 }));
     let root = AuthInfo { superuser: true, ..g7 };
-    assert_eq!(root.subscribe(2, b"a"), Ok(ClientSubscribe::Allow { rule: 0, qos: 2 }));
+    assert_eq!(root.subscribe(b"a", 2), Ok(ClientSubscribe::Allow { rule: 0, qos: 2 }));
 
     // Refusals of a line come before the superuser.
-    let with = |rules| AuthInfo { rules, ..root }.subscribe(0, b"a");
+    let with = |rules| AuthInfo { rules, ..root }.subscribe(b"a", 0);
     let nameless = AuthInfo { name: None, ..root };
-    assert_eq!(nameless.subscribe(0, b"a"), Err(at(Refusal::NotARule, 2)));
-    assert_eq!(nameless.publish(0, false, true, b"a"), Err(at(Refusal::NotARule, 2)));
+    assert_eq!(nameless.subscribe(b"a", 0), Err(at(Refusal::NotARule, 2)));
+    assert_eq!(nameless.publish(b"a", 0, false, true), Err(at(Refusal::NotARule, 2)));
     assert_eq!(with(b"\n"), Err(at(Refusal::NotJson, 1)));
     assert_eq!(with(&[b' '; 2_049]), Err(at(Refusal::TooLong, 1)));
     assert_eq!(with(&[b' '; 32_769]), Err(at(Refusal::TooLong, 0)));
@@ -356,7 +365,7 @@ fn a_client_s_own_rules() {
         br#""}"#,
     ];
     let rules = [rules.as_slice(), &long.concat()].concat();
-    let filled = |id| AuthInfo { id, rules: &rules, ..g7 }.publish(0, false, false, b"a");
+    let filled = |id| AuthInfo { id, rules: &rules, ..g7 }.publish(b"a", 0, false, false);
     assert_eq!(filled(&[b'a'; 56]), Ok(ClientPublish::NoDecision));
     assert_eq!(filled(&[b'a'; 57]), Err(at(Refusal::FilledTooLong, 5)));
 }
@@ -380,4 +389,17 @@ fn refusals_are_told_in_words() {
     let secret = Client { password: Some(b"pw"), ..G7 };
     assert!(!format!("{secret:?}").contains("password"));
     assert_eq!(format!("{:?}", opened(EXAMPLE)), "Store { length: 47888, .. }");
+}
+
+#[test]
+fn a_time_from_a_clock() {
+    let time = Time::from(std::time::Duration::new(7, 999_999_999));
+    assert_eq!((time.seconds, time.nanoseconds), (7, 999_999_999));
+}
+
+/// The crate's version is that of the library.
+#[test]
+fn one_version() {
+    let parts = env!("CARGO_PKG_VERSION").split('.').map(|part| part.parse::<u32>().unwrap());
+    assert_eq!(version(), parts.fold(0, |number, part| 100 * number + part));
 }

@@ -1,4 +1,4 @@
--- What the calls about a rule line answer, as numbers.
+-- What the calls about a rule line answer, as numbers; flags; the version.
 use Prim.Native.Nat.{ℕ}
 use mathlib.Core.Bool.{Bool, cond, not}
 use mathlib.Core.List.{List}
@@ -10,6 +10,10 @@ use Rattle.rule.specs.RuleText.{Result, refused, gives, readRule}
 use Rattle.rule.specs.Identity.{Client, identity}
 use Rattle.rule.specs.declared.Identity.{Identity}
 use Rattle.rule.specs.declared.Identity.the-variants.{Agrees, Differs}
+
+-- 0.2.0: 10,000 times the first number, 100 times the second, and the third
+unfoldable pub version : ℕ
+version = 200
 
 -- a flag that a host hands over: 0 is false, every other number true
 unfoldable pub flag : ℕ → Bool

@@ -48,8 +48,8 @@ pub extern "C" fn mqtt_acl_client_subscribe(
     has_name: u8,
     name: &[u8],
     rules: &[u8],
-    qos: u64,
     topic: &[u8],
+    qos: u64,
 ) -> u64
     ensures { λ r. ⌜ r ≡ clients.packed (decision.ask (record { superuser = flag superuser; id = now (id .entry); name = where-true (flag «has_name») (now (name .entry)) }) (now (rules .entry)) (decision.subscribe qos (now (topic .entry)))) ⌝ }
 {
@@ -91,10 +91,10 @@ pub extern "C" fn mqtt_acl_client_publish(
     has_name: u8,
     name: &[u8],
     rules: &[u8],
+    topic: &[u8],
     qos: u64,
     retain: u8,
     disconnect: u8,
-    topic: &[u8],
 ) -> u64
     ensures { λ r. ⌜ r ≡ clients.packed (decision.ask (record { superuser = flag superuser; id = now (id .entry); name = where-true (flag «has_name») (now (name .entry)) }) (now (rules .entry)) (decision.publish qos (flag retain) (flag disconnect) (now (topic .entry)))) ⌝ }
 {

@@ -57,6 +57,14 @@ fn yes(is: bool) -> u8
     0
 }
 
+// The version of the library: 10,000 times its first number, 100 times its second, and its third.
+#[no_mangle]
+pub extern "C" fn mqtt_acl_version() -> u32
+    ensures { λ r. ⌜ r ≡ rules.version ⌝ }
+{
+    200
+}
+
 // Is the text a valid filter?
 #[no_mangle]
 pub extern "C" fn mqtt_acl_valid_filter(text: &[u8]) -> u8

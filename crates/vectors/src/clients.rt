@@ -19,8 +19,8 @@ fn subscribe_answer(line: &[u8]) -> u64
         given_flag(name),
         lent(name),
         rest(line, 10),
-        number(field(line, 4)) as u64,
         field(line, 9),
+        number(field(line, 4)) as u64,
     )
 }
 
@@ -34,10 +34,10 @@ fn publish_answer(line: &[u8]) -> u64
         given_flag(name),
         lent(name),
         rest(line, 10),
+        field(line, 9),
         number(field(line, 4)) as u64,
         given_flag(field(line, 5)),
         given_flag(field(line, 6)),
-        field(line, 9),
     )
 }
 

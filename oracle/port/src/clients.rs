@@ -14,9 +14,9 @@ mod exported {
             name_len: usize,
             rules: *const u8,
             rules_len: usize,
-            qos: u64,
             topic: *const u8,
             topic_len: usize,
+            qos: u64,
         ) -> u64;
         pub fn mqtt_acl_client_publish(
             superuser: u8,
@@ -27,11 +27,11 @@ mod exported {
             name_len: usize,
             rules: *const u8,
             rules_len: usize,
+            topic: *const u8,
+            topic_len: usize,
             qos: u64,
             retain: u8,
             disconnect: u8,
-            topic: *const u8,
-            topic_len: usize,
         ) -> u64;
         pub fn mqtt_acl_expired(
             has_expiry: u8,
@@ -64,9 +64,9 @@ pub fn subscribe(c: Owner, qos: u64, topic: &[u8]) -> u64 {
             c.name.1.len(),
             c.rules.as_ptr(),
             c.rules.len(),
-            qos,
             topic.as_ptr(),
             topic.len(),
+            qos,
         )
     }
 }
@@ -83,11 +83,11 @@ pub fn publish(c: Owner, qos: u64, retain: bool, disconnect: bool, topic: &[u8])
             c.name.1.len(),
             c.rules.as_ptr(),
             c.rules.len(),
+            topic.as_ptr(),
+            topic.len(),
             qos,
             retain.into(),
             disconnect.into(),
-            topic.as_ptr(),
-            topic.len(),
         )
     }
 }

@@ -29,26 +29,26 @@ rest-requires c κs = search needs
 field-requires-4 : tie.Need-field-requires-4
 field-requires-4 c κs = search needs
 
+field-requires-5 : tie.Need-field-requires-5
+field-requires-5 c κs = search needs
+
 number-requires : tie.Need-number-requires
 number-requires c κs = search needs
 
 cast-mqtt-acl-client-publish : tie.Need-cast-mqtt-acl-client-publish
 cast-mqtt-acl-client-publish c = search needs
 
-field-requires-5 : tie.Need-field-requires-5
-field-requires-5 c κs = search needs
+field-requires-6 : tie.Need-field-requires-6
+field-requires-6 c κs = search needs
 
 given-flag-requires-3 : tie.Need-given-flag-requires-3
 given-flag-requires-3 c κs = search needs
 
-field-requires-6 : tie.Need-field-requires-6
-field-requires-6 c κs = search needs
+field-requires-7 : tie.Need-field-requires-7
+field-requires-7 c κs = search needs
 
 given-flag-requires-4 : tie.Need-given-flag-requires-4
 given-flag-requires-4 c κs = search needs
-
-field-requires-7 : tie.Need-field-requires-7
-field-requires-7 c κs = search needs
 
 mqtt-acl-client-publish-requires : tie.Need-mqtt-acl-client-publish-requires
 mqtt-acl-client-publish-requires c κs = search needs
@@ -56,8 +56,8 @@ mqtt-acl-client-publish-requires c κs = search needs
 returns : tie.Need-returns
 unfolding publishAnswer clientIn
 returns c =
-    rw (c .mqtt-acl-client-publish .ensures, c .before .field7 .ensures, flag-back (c .before .before .given-flag4 .ensures), c .before .before .before .field6 .ensures)
-    (rw (flag-back (c .before .before .before .before .given-flag3 .ensures), c .before .before .before .before .before .field5 .ensures, c .before .before .before .before .before .before .number .ensures, c .before .before .before .before .before .before .before .field4 .ensures)
+    rw (c .mqtt-acl-client-publish .ensures, flag-back (c .before .given-flag4 .ensures), c .before .before .field7 .ensures, flag-back (c .before .before .before .given-flag3 .ensures))
+    (rw (c .before .before .before .before .field6 .ensures, c .before .before .before .before .before .number .ensures, c .before .before .before .before .before .before .field5 .ensures, c .before .before .before .before .before .before .before .field4 .ensures)
     (rw (c .before .before .before .before .before .before .before .before .rest .ensures, c .before .before .before .before .before .before .before .before .before .lent .ensures, flag-back (c .before .before .before .before .before .before .before .before .before .before .given-flag2 .ensures), c .before .before .before .before .before .before .before .before .before .before .before .field3 .ensures)
     (rw (flag-back (c .before .before .before .before .before .before .before .before .before .before .before .before .given-flag .ensures), c .before .before .before .before .before .before .before .before .before .before .before .before .before .field2 .ensures, c .before .before .before .before .before .before .before .before .before .before .before .before .before .before .field .ensures))))
 
@@ -73,12 +73,12 @@ publish-answer-spec =
     lent-requires
     rest-requires
     field-requires-4
+    field-requires-5
     number-requires
     cast-mqtt-acl-client-publish
-    field-requires-5
-    given-flag-requires-3
     field-requires-6
-    given-flag-requires-4
+    given-flag-requires-3
     field-requires-7
+    given-flag-requires-4
     mqtt-acl-client-publish-requires
     returns)

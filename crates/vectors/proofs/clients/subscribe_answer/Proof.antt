@@ -29,14 +29,14 @@ rest-requires c κs = search needs
 field-requires-4 : tie.Need-field-requires-4
 field-requires-4 c κs = search needs
 
+field-requires-5 : tie.Need-field-requires-5
+field-requires-5 c κs = search needs
+
 number-requires : tie.Need-number-requires
 number-requires c κs = search needs
 
 cast-mqtt-acl-client-subscribe : tie.Need-cast-mqtt-acl-client-subscribe
 cast-mqtt-acl-client-subscribe c = search needs
-
-field-requires-5 : tie.Need-field-requires-5
-field-requires-5 c κs = search needs
 
 mqtt-acl-client-subscribe-requires : tie.Need-mqtt-acl-client-subscribe-requires
 mqtt-acl-client-subscribe-requires c κs = search needs
@@ -44,7 +44,7 @@ mqtt-acl-client-subscribe-requires c κs = search needs
 returns : tie.Need-returns
 unfolding subscribeAnswer clientIn
 returns c =
-    rw (c .mqtt-acl-client-subscribe .ensures, c .before .field5 .ensures, c .before .before .number .ensures, c .before .before .before .field4 .ensures)
+    rw (c .mqtt-acl-client-subscribe .ensures, c .before .number .ensures, c .before .before .field5 .ensures, c .before .before .before .field4 .ensures)
     (rw (c .before .before .before .before .rest .ensures, c .before .before .before .before .before .lent .ensures, flag-back (c .before .before .before .before .before .before .given-flag2 .ensures), c .before .before .before .before .before .before .before .field3 .ensures)
     (rw (flag-back (c .before .before .before .before .before .before .before .before .given-flag .ensures), c .before .before .before .before .before .before .before .before .before .field2 .ensures, c .before .before .before .before .before .before .before .before .before .before .field .ensures)))
 
@@ -60,8 +60,8 @@ subscribe-answer-spec =
     lent-requires
     rest-requires
     field-requires-4
+    field-requires-5
     number-requires
     cast-mqtt-acl-client-subscribe
-    field-requires-5
     mqtt-acl-client-subscribe-requires
     returns)
