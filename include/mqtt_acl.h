@@ -29,7 +29,41 @@
    functions, refusal numbers from 11 on and the value 15 of mqtt_acl_what: a broker takes what it doesn't know as a denial.
    A number that has a meaning keeps it. Structs are filled by name, or set to zero first: a member may be added at the end.
 
-   Refusals by number, each the first cause in document 01's order; all lent memory is then unchanged. See mqtt_acl_refusal below. */
+   The life of a client, in calls on a store:
+     connect       asked when its CONNECT comes: may it?
+     connected     told once it is in: the rules' %c and %u are filled with its id and name, which gives it rows
+     subscribe,    asked for each filter and each message. A delivery is asked as a subscribe to the message's topic
+     publish
+     disconnected  told when it has left: its rows go
+     ended         told when its session is over: the session's notes go
+   - Rows belong to the id, not to the connection. On a take-over (a second connection with the same id) the old one leaves before the
+     new one enters: disconnected, ended, then connected. A disconnected that is told late takes away the rows of the new one. If the
+     new one is then refused and the old one stays, tell connected for it again.
+   - A will is published after the connection is lost: ask it before disconnected is told, since its rows are gone afterwards.
+   - Sessions are 0 to 255. One number can serve all clients, however many: a client enters by connected and ended, and leaves by
+     connected, disconnected and ended, one client at a time. Connected then finds its rows there, adds none and makes the notes anew,
+     by which disconnected finds what to clear. This was tried with 2,000 clients; it is not proved here.
+   - The superuser flag of an allowed connect is handed back to the caller and not looked at afterwards: subscribe and publish judge a
+     superuser as anyone. (Per-client questions do look at theirs.)
+   - A rule that asks for a password asks in every question: keep the password as long as the client is there, or its rule agrees at
+     connect and never again. The same holds for the address and the protocol.
+   - An id or a name that holds `+`, `#` or `/`, or begins with `$`, widens rules: `bench/%c/#` filled with the id `+` is `bench/+/#`.
+     Refuse such ids at CONNECT where rules have %c or %u.
+   - Each call checks the whole store, unused rows too: tables of 4,096 empty rows cost on every question. Give the tables what the
+     clients need.
+   - New rules without losing rows: open a second store, tell it connected for everyone present, and take it in place of the first if
+     nothing was refused. examples/c/reload.c does it.
+
+   Refusals by number, each the first cause in document 01's order; all lent memory is then unchanged:
+     number  what it says                             what a broker does
+     1       a text, or the rules, over a length      question: deny. Connected: refuse the connection. Open: keep the old rules
+     2       a number out of range                    deny; the caller handed over a wrong session, code, QoS or time
+     3       the store is not as laid out             deny, raise an alarm, build the store anew
+     4       counts, or the store's length, wrong     at open alone: the caller's counts
+     5, 6    a line is no JSON, or no rule            open: keep the old rules, tell the line. Per-client: deny, its rules are faulty
+     7       a text over 256 bytes once filled        refuse the connection. Per-client: deny
+     8, 10   no room for filter rows, or notes        refuse the connection; larger tables
+     9       no room for eq rows, which never leave   build the store anew with those present and try again, else refuse the connection */
 #ifndef MQTT_ACL_H
 #define MQTT_ACL_H
 
