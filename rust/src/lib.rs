@@ -48,6 +48,11 @@
 #[cfg(not(all(target_arch = "x86_64", target_os = "linux", target_pointer_width = "64")))]
 compile_error!("libmqtt_acl.a is for x86-64 Linux");
 
+/// The Rust of the repository's README.md is run as a test.
+#[cfg(doctest)]
+#[doc = include_str!("../../README.md")]
+struct Readme;
+
 mod answers;
 mod authinfo;
 mod line;
