@@ -109,8 +109,8 @@ static void c_subscribe(void) {
 static void c_publish(void) {
     sink = mqtt_acl_publish(store, length, earlier, T(id), OPTIONAL(name), OPTIONAL(password), OPTIONAL(address), 1, 4, T(topic), 1);
 }
-static void c_client_subscribe(void) { sink = mqtt_acl_client_subscribe(0, T(id), OPTIONAL(name), T(client_rules), qos, T(topic)); }
-static void c_client_publish(void) { sink = mqtt_acl_client_publish(0, T(id), OPTIONAL(name), T(client_rules), qos, 1, 1, T(topic)); }
+static void c_client_subscribe(void) { sink = mqtt_acl_client_subscribe(0, T(id), OPTIONAL(name), T(client_rules), T(topic), qos); }
+static void c_client_publish(void) { sink = mqtt_acl_client_publish(0, T(id), OPTIONAL(name), T(client_rules), T(topic), qos, 1, 1); }
 static void c_expired(void) { sink = mqtt_acl_expired(1, 5, 6, 5, 7); }
 static uint64_t answer;
 static void c_answer(void) {
