@@ -367,6 +367,7 @@ fn some_topic_agrees(line: &[u8], first: Place, topic: &[u8]) -> bool
     ensures { λ r. ⌜ r ≡ spec.someTopicFrom (now (topic .entry)) (length (now (line .entry))) (now (line .entry)) first ⌝ }
 {
     let mut next = first;
+    // How many topics may still come: each takes a byte of the line at least, so none is lost when this runs out.
     let mut turns = line.len();
     while turns > 0 {
         match next {
@@ -485,11 +486,13 @@ pub(crate) fn deciding_in(
                     }
                     Topics::Listed(array) => {
                         let mut next = first_element(line, array);
+                        // How many topics may still come. Each takes a byte of the line at least, so there are never more topics
+                        // than bytes, and none is lost when this runs out.
                         let mut turns = line.len();
-                        while turns > 0 {
+                        'topics: while turns > 0 {
                             match next {
                                 Place::Nowhere => {
-                                    turns = 0;
+                                    break 'topics;
                                 }
                                 Place::At(p) => match pass_topic(line, p, topic, valid) {
                                     TopicPassed::Agrees => {
