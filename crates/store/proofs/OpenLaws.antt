@@ -12,7 +12,7 @@ use lib.ListN.{length, take, drop, replicate, length-drop, replicate-append-repl
 use lib.Seq.{take-all}
 use Rattle.text.specs.Text.{pasted}
 use Rattle.text.proofs.Laws.{isnt, and-split}
-use Rattle.table.specs.Bytes.{u16, zeros, cleared, join}
+use Rattle.table.specs.Bytes.{u16, zeros, join}
 use Rattle.rule.specs.RuleText.{Fault, textFault}
 use Rattle.rule.specs.Places.{textAnswer}
 use Rattle.rule.specs.declared.Refusal.{Refusal}
@@ -29,7 +29,7 @@ use Rattle.store.specs.declared.RulesRead.the-variants.{Rules, Malformed
 use Rattle.store.specs.View.{faultless, rules}
 use Rattle.store.specs.Check.{countsRead, textFine, textRules}
 use Rattle.store.specs.Opening.{openFault, opened, afterOpen, told, says}
-use Rattle.store.proofs.RowLaws.{pasted-into, pasted-pad, cleared-all}
+use Rattle.store.proofs.RowLaws.{pasted-into, pasted-pad}
 
 -- ---- counts
 
@@ -211,18 +211,18 @@ zeros-split c =
     ∙ ap (λ (b : List ℕ). replicate (c .filters * filterSize) 0 ++ b) (sym (replicate-append-replicate (c .eqs * eqSize) (c .notes * noteSize) 0)))))
 
 -- the header's five numbers, then the text, into the zeros
-pub write-open : {s0 s1 s2 s3 s4 s5 store : List ℕ} (c : Counts) (text s : List ℕ) → length s ≡ storeLength c → length text ≤ c .bytes
-    → s0 ≡ cleared 0 (length s) s → s1 ≡ pasted 0 (u16 (c .bytes)) s0 → s2 ≡ pasted 2 (u16 (c .filters)) s1 → s3 ≡ pasted 4 (u16 (c .eqs)) s2
+pub write-open : {s0 s1 s2 s3 s4 s5 store : List ℕ} (c : Counts) (text : List ℕ) → length text ≤ c .bytes
+    → s0 ≡ replicate (storeLength c) 0 → s1 ≡ pasted 0 (u16 (c .bytes)) s0 → s2 ≡ pasted 2 (u16 (c .filters)) s1 → s3 ≡ pasted 4 (u16 (c .eqs)) s2
     → s4 ≡ pasted 6 (u16 (c .notes)) s3 → s5 ≡ pasted 8 (u16 (length text)) s4 → store ≡ pasted 16 text s5
     → store ≡ layout (opened c text)
 unfolding layout opened header filterCodec numberedCodec u16
-write-open c text s e h p0 p1 p2 p3 p4 p5 p6 =
+write-open c text h p0 p1 p2 p3 p4 p5 p6 =
     let rest : List ℕ = replicate (c .filters * filterSize) 0 ++ (replicate (c .eqs * eqSize) 0 ++ replicate (c .notes * noteSize) 0) in
     let back : List ℕ = replicate (c .bytes) 0 ++ rest in
     let two : List ℕ = u16 (c .bytes) ++ u16 (c .filters) in
     let three : List ℕ = two ++ u16 (c .eqs) in
     let four : List ℕ = three ++ u16 (c .notes) in
-    let zero-bytes = p0 ∙ (cleared-all (length s) s refl ∙ (ap (λ (n : ℕ). replicate n 0) e ∙ zeros-split c)) in
+    let zero-bytes = p0 ∙ zeros-split c in
     let after-1 = p1 ∙ (ap (pasted 0 (u16 (c .bytes))) zero-bytes ∙ pasted-into [] (replicate 2 0) (replicate 14 0 ++ back) (u16 (c .bytes)) 0 refl refl) in
     let after-2 = p2 ∙ (ap (pasted 2 (u16 (c .filters))) after-1 ∙ pasted-into (u16 (c .bytes)) (replicate 2 0) (replicate 12 0 ++ back) (u16 (c .filters)) 2 refl refl) in
     let after-3 = p3 ∙ (ap (pasted 4 (u16 (c .eqs))) after-2 ∙ pasted-into two (replicate 2 0) (replicate 10 0 ++ back) (u16 (c .eqs)) 4 refl refl) in

@@ -169,11 +169,29 @@ put-cut {n} head at width text before e p q =
     let count : length (take width text) ≡ n = ap length (sym cut) ∙ length-take-le n text (omega arith) in
     rw (count, ← cut, ← p) q
 
--- all of a buffer cleared
+-- the first bytes of a buffer cleared
+cleared-front : (n : ℕ) (s : List ℕ) → n ≤ length s → cleared 0 n s ≡ replicate n 0 ++ drop n s
+cleared-front n s h = cleared-fits 0 n s (omega arith) h ∙ rw (sub-zero n) refl
+
+-- all of it
 pub cleared-all : (n : ℕ) (s : List ℕ) → length s ≡ n → cleared 0 n s ≡ replicate n 0
 cleared-all n s e =
     let none = drop-of-length-le s {i = n} (omega arith) in
-    cleared-fits 0 n s (omega arith) (omega arith) ∙ rw (none, sub-zero n) (append-nil (replicate n 0))
+    cleared-front n s (omega arith) ∙ rw none (append-nil (replicate n 0))
+
+-- a stretch of zeros put in after those that are cleared
+pub cleared-on : {part t : List ℕ} (from to : ℕ) (s : List ℕ) → from ≤ to → to ≤ length s → t ≡ cleared 0 from s
+    → part ≡ replicate (length (take (to - from) (drop from t))) 0 → take from t ++ (part ++ drop (to - from) (drop from t)) ≡ cleared 0 to s
+cleared-on {part} {t} from to s h k e p =
+    let front = e ∙ cleared-front from s (omega arith) in
+    let zero-bytes = length-replicate {A = ℕ} from 0 in
+    let before = ap (take from) front ∙ take-at (replicate from 0) (drop from s) from zero-bytes in
+    let behind = ap (drop from) front ∙ drop-at (replicate from 0) (drop from s) from zero-bytes in
+    let count = length-take-le (to - from) (drop from s) (omega (arith, length-drop from s)) in
+    let sum : from + (to - from) ≡ to = omega arith in
+    let parts : replicate {A = ℕ} to 0 ≡ replicate from 0 ++ replicate (to - from) 0 = rw (replicate-append-replicate {A = ℕ} from (to - from) 0, sum) in
+    rw (before, p, behind, count, drop-drop (to - from) from s, sum, cleared-front to s k, parts)
+    (sym (append-assoc (replicate from 0) (replicate (to - from) 0) (drop to s)))
 
 -- ---- rows
 

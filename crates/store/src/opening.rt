@@ -10,10 +10,33 @@ use table::put_number;
 ghost use mathlib.Core.Path.{_≡_};
 ghost use mathlib.Core.Option.{Option·map};
 ghost use Prim.Native.Nat.{_≤_};
-ghost use lib.ListN.{length};
+ghost use lib.ListN.{length, replicate};
 ghost use Rattle.store.specs.Store as store_spec;
 ghost use Rattle.store.specs.Layout as layout;
 ghost use Rattle.store.specs.Opening as spec;
+
+// All bytes of a table's stretch are zero.
+fn clear_table(table: &mut [u8])
+    ensures { λ r. ⌜ now (table .exit) ≡ replicate (length (now (table .entry))) 0 ⌝ }
+{
+    let end = table.len();
+    clear(table, 0, end);
+}
+
+// All bytes of a store are zero, each table's written through its own stretch.
+fn clear_store(store: &mut [u8], counts: Counts)
+    requires { ⌜ length (now store) ≡ store_spec.storeLength counts ⌝ }
+    ensures { λ r. ⌜ now (store .exit) ≡ replicate (store_spec.storeLength counts) 0 ⌝ }
+{
+    let filters_at = counts.filters_at();
+    let eqs_at = counts.eqs_at();
+    let notes_at = counts.notes_at();
+    let end = store.len();
+    clear(store, 0, filters_at);
+    clear_table(&mut store[filters_at..eqs_at]);
+    clear_table(&mut store[eqs_at..notes_at]);
+    clear_table(&mut store[notes_at..end]);
+}
 
 // Writes a store without used rows.
 fn write_open(store: &mut [u8], counts: Counts, text: &[u8])
@@ -21,8 +44,7 @@ fn write_open(store: &mut [u8], counts: Counts, text: &[u8])
     requires { ⌜ length (now text) ≤ counts .bytes ⌝ }
     ensures { λ r. ⌜ now (store .exit) ≡ layout.layout (spec.opened counts (now (text .entry))) ⌝ }
 {
-    let end = store.len();
-    clear(store, 0, end);
+    clear_store(store, counts);
     put_number(store, 0, counts.bytes);
     put_number(store, 2, counts.filters);
     put_number(store, 4, counts.eqs);

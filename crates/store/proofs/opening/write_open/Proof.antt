@@ -1,12 +1,12 @@
--- `store::opening::write_open` meets its contract: each write is into the zeros that `clear` left. Assumes nothing.
+-- `store::opening::write_open` meets its contract: each write is into the zeros that `clear_store` left. Assumes nothing.
 use borrow.Author.Needs.{needs}
 use denote.Ref.{now}
 use Rattle.store.proofs.OpenLaws.{write-open}
 use Rattle.store.proofs.opening.write_open.Statement.{statement}
 use Rattle.store.proofs.opening.write_open.Tie as tie
 
-clear-requires : tie.Need-clear-requires
-clear-requires c κs = search needs
+clear-store-requires : tie.Need-clear-store-requires
+clear-store-requires c κs = c .before .before .before .pre .0
 
 put-number-requires : tie.Need-put-number-requires
 put-number-requires c κs = search needs
@@ -35,14 +35,14 @@ same-length c = search needs
 returns : tie.Need-returns
 returns c =
     let a = c .before .before .before .before .before .before .before .before .before .before .before .before .before .before .before .before .before .before .before .before .before .before .before .before .before .before .before .before .before .before .args in
-    write-open (a .counts) (now (a .text)) (now (a .store)) (c .before .before .before .before .before .before .before .before .before .before .before .before .before .before .before .before .before .before .before .before .before .before .before .before .before .before .before .before .before .before .pre .0) (c .before .before .before .before .before .before .before .before .before .before .before .before .before .before .before .before .before .before .before .before .before .before .before .before .before .before .before .before .before .before .pre .1) (c .before .before .before .before .before .before .before .before .before .before .before .before .before .before .before .before .before .before .before .before .before .before .before .before .before .before .clear .ensures) (c .before .before .before .before .before .before .before .before .before .before .before .before .before .before .before .before .before .before .before .before .before .before .put-number .ensures)
+    write-open (a .counts) (now (a .text)) (c .before .before .before .before .before .before .before .before .before .before .before .before .before .before .before .before .before .before .before .before .before .before .before .before .before .before .before .before .before .before .pre .1) (c .before .before .before .before .before .before .before .before .before .before .before .before .before .before .before .before .before .before .before .before .before .before .before .before .before .before .clear-store .ensures) (c .before .before .before .before .before .before .before .before .before .before .before .before .before .before .before .before .before .before .before .before .before .before .put-number .ensures)
     (c .before .before .before .before .before .before .before .before .before .before .before .before .before .before .before .before .before .before .put-number2 .ensures) (c .before .before .before .before .before .before .before .before .before .before .before .before .before .before .put-number3 .ensures) (c .before .before .before .before .before .before .before .before .before .before .put-number4 .ensures) (c .before .before .before .before .before .before .put-number5 .ensures) (c .before .before .paste .ensures .1)
 
 pub write-open-spec : {M : Type 1} → statement M
 write-open-spec =
     tie.close
     (tie.spec
-    clear-requires
+    clear-store-requires
     put-number-requires
     put-number-requires-2
     put-number-requires-3
