@@ -1,7 +1,7 @@
 -- Laws of the rows that leave: the steps of the loops of leaving.rt, and what its events do to a store as laid out. Assumes nothing.
 use Prim.Native.Nat.{ℕ, zero, suc, _+_, _-_, _*_, _≤_, _<_}
 use mathlib.Core.Path.{_≡_, refl, sym, ap, _∙_}
-use mathlib.Core.Bool.{Bool, true, false, not, cond}
+use mathlib.Core.Bool.{Bool, true, false, _&&_, not, cond, and-false}
 use mathlib.Core.List.{List, [], _∷_, _++_, map, append-assoc, append-nil}
 use mathlib.Core.Option.{none, some}
 use native.Mathlib.Nat.{zero-mul}
@@ -12,7 +12,9 @@ use lib.Dec.{eqb, leb}
 use lib.ListN.{length, take, drop, set, length-drop, length-set, length-map, take-append-drop, drop-of-length-le}
 use lib.Seq.{drop-drop, take-at, take-suc-set, drop-set-lt}
 use Rattle.text.specs.Text.{same, pasted}
-use Rattle.topic.specs.Topic.{validFilter, treeMatch}
+use Rattle.topic.specs.Topic.{levels, levelsIf, checkedLevels, treeLevels, validFilter, treeMatch}
+use Rattle.topic.specs.Walk.{beginsApart}
+use Rattle.topic.proofs.Apart.{apart-no-match}
 use Rattle.table.specs.Table.{some-row, keep, add-all, change}
 use Rattle.table.specs.Bytes.{u16, number, rows, unmarked, kept, removed}
 use Rattle.rule.specs.Refusals.{number as refusal, first}
@@ -37,19 +39,28 @@ use Rattle.events.proofs.StoreLaws.{argument-caused, malformed-caused}
 
 -- ---- a note by its number and its text
 
+pub text-apart : (filter note : List ℕ) → beginsApart filter note ≡ true → (validFilter note && treeMatch filter note) ≡ false
+text-apart filter note e = ap (λ (b : Bool). validFilter note && b) (apart-no-match filter note e) ∙ and-false (validFilter note)
+
+-- T of a note that is taken for valid
+pub text-known : (filter note : List ℕ) {told : Bool} → treeLevels (levels filter) (levelsIf true note) ≡ told
+    → (validFilter note && treeMatch filter note) ≡ (validFilter note && told)
+unfolding treeMatch checkedLevels
+text-known filter note {told} e = by (validFilter note)
+  where
+    by : (valid : Bool) → (valid && treeLevels (levels filter) (levelsIf valid note)) ≡ (valid && told)
+    by true = e
+    by false = refl
+
 module _ (session : ℕ) (filter row : List ℕ) {n : ℕ} (e : n ≡ number row) where
   pub note-other : (n ≡ session → ⊥) → clears session filter (noteCodec .get row) ≡ false
   unfolding clears ofSession numberedCodec
   note-other k = rw (ne-eqb (number row) session (λ q. k (e ∙ q)))
 
-  module _ {text : List ℕ} {valid : Bool} (k : n ≡ session) (t : text ≡ numberedText row) (v : valid ≡ validFilter text) where
-    pub note-invalid : valid ≡ false → clears session filter (noteCodec .get row) ≡ false
-    unfolding clears ofSession numberedCodec
-    note-invalid q = rw (eq-eqb (number row) session (sym e ∙ k), ← t, ← v, q)
-
-    pub note-valid : {told b : Bool} → valid ≡ true → told ≡ treeMatch filter text → told ≡ b → clears session filter (noteCodec .get row) ≡ b
-    unfolding clears ofSession numberedCodec
-    note-valid q m r = rw (eq-eqb (number row) session (sym e ∙ k), ← t, ← v, q, ← m, r)
+  pub note-own : {text : List ℕ} {told b : Bool} → n ≡ session → text ≡ numberedText row → told ≡ (validFilter text && treeMatch filter text) → told ≡ b
+      → clears session filter (noteCodec .get row) ≡ b
+  unfolding clears ofSession numberedCodec
+  note-own k t m r = rw (eq-eqb (number row) session (sym e ∙ k), ← t, ← m, r)
 
 -- ---- a filter row by its owner and its text
 

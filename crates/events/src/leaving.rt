@@ -12,12 +12,15 @@ use store::rows::numbered_text;
 use table::number_at;
 use table::put_number;
 use table::remove;
-use topic::tree_match;
+use topic::begins_apart;
+use topic::tree_match_known;
 use topic::valid_filter;
 ghost use mathlib.Core.Path.{_≡_};
+ghost use mathlib.Core.Bool.{_&&_};
 ghost use mathlib.Core.List.{_++_};
 ghost use Prim.Native.Nat.{_*_, _≤_};
 ghost use lib.ListN.{length, drop};
+ghost use Rattle.topic.specs.Topic as filters;
 ghost use Rattle.table.specs.Table.{«some-row»};
 ghost use Rattle.store.specs.View.{view};
 ghost use Rattle.events.specs.Event as event;
@@ -25,6 +28,19 @@ ghost use Rattle.events.specs.Marks as spec;
 
 // A table has at most so many rows.
 const ROWS: usize = 4096;
+
+// Is the note a valid filter that this filter T-matches? Most differ before the filter's first wildcard; a note that matches is the one to check.
+fn text_clears(filter: &[u8], note: &[u8]) -> bool
+    ensures { λ r. ⌜ r ≡ (filters.validFilter (now (note .entry)) && filters.treeMatch (now (filter .entry)) (now (note .entry))) ⌝ }
+{
+    if begins_apart(filter, note) {
+        return false;
+    }
+    if tree_match_known(filter, note, true) {
+        return valid_filter(note);
+    }
+    false
+}
 
 // Is there a note of the session that is a valid filter and that this filter T-matches?
 fn note_clears(notes: &[u8], session: usize, filter: &[u8]) -> bool
@@ -35,11 +51,8 @@ fn note_clears(notes: &[u8], session: usize, filter: &[u8]) -> bool
         let next = at + Counts::NOTE;
         let row = &notes[at..next];
         if number_at(row, 0) == session {
-            let note = numbered_text(row);
-            if valid_filter(note) {
-                if tree_match(filter, note) {
-                    return true;
-                }
+            if text_clears(filter, numbered_text(row)) {
+                return true;
             }
         }
         at = next;

@@ -11,7 +11,7 @@ use Rattle.store.specs.Layout.{numberedCodec, noteCodec}
 use Rattle.store.proofs.PartLaws.{rowsFrom, some-more, some-none}
 use Rattle.events.specs.Event.{clears}
 use Rattle.events.specs.Marks.{noteRowsIn}
-use Rattle.events.proofs.LeaveLaws.{note-other, note-invalid, note-valid}
+use Rattle.events.proofs.LeaveLaws.{note-other, note-own}
 use Rattle.events.proofs.leaving.note_clears.Statement.{statement}
 use Rattle.events.proofs.leaving.note_clears.Tie as tie
 
@@ -47,19 +47,15 @@ number-at-requires c κs = search needs
 numbered-text-requires : tie.Need-numbered-text-requires Inv-loop μ-loop
 numbered-text-requires c κs = search needs
 
-valid-filter-requires : tie.Need-valid-filter-requires Inv-loop μ-loop
-valid-filter-requires c κs = search needs
-
-tree-match-requires : tie.Need-tree-match-requires Inv-loop μ-loop
-tree-match-requires c κs = search needs
+text-clears-requires : tie.Need-text-clears-requires Inv-loop μ-loop
+text-clears-requires c κs = search needs
 
 returns : tie.Need-returns Inv-loop μ-loop
 unfolding numberedCodec
 returns c =
-    let v = c .before .before .before in
-    let n = v .before .before .before in
+    let n = c .before .before .before .before in
     let l = n .before .before .before .loop in
-    let clear = note-valid _ _ _ (n .number-at .ensures) (v .before .before .if1 .taken) (v .before .numbered-text .ensures) (v .valid-filter .ensures) (c .before .before .if2 .taken) (c .before .tree-match .ensures) (c .if3 .taken) in
+    let clear = note-own _ _ _ (n .number-at .ensures) (c .before .before .before .if1 .taken) (c .before .before .numbered-text .ensures) (c .before .text-clears .ensures) (c .if2 .taken) in
     sym (some-more noteCodec (l .at) _ _ (omega arith) (omega arith) clear) ∙ l .inv .1
 
 loop-less : tie.Need-loop-less Inv-loop μ-loop
@@ -68,10 +64,9 @@ loop-less c = omega arith
 loop-again : tie.Need-loop-again Inv-loop μ-loop
 unfolding numberedCodec
 loop-again c =
-    let v = c .before .before .before in
-    let n = v .before .before .before in
+    let n = c .before .before .before .before in
     let l = n .before .before .before .loop in
-    let clear = note-valid _ _ _ (n .number-at .ensures) (v .before .before .if1 .taken) (v .before .numbered-text .ensures) (v .valid-filter .ensures) (c .before .before .if2 .taken) (c .before .tree-match .ensures) (c .if3 .left) in
+    let clear = note-own _ _ _ (n .number-at .ensures) (c .before .before .before .if1 .taken) (c .before .before .numbered-text .ensures) (c .before .text-clears .ensures) (c .if2 .left) in
     (omega arith, sym (some-more noteCodec (l .at) _ _ (omega arith) (omega arith) clear) ∙ l .inv .1)
 
 loop-less-2 : tie.Need-loop-less-2 Inv-loop μ-loop
@@ -80,19 +75,6 @@ loop-less-2 c = omega arith
 loop-again-2 : tie.Need-loop-again-2 Inv-loop μ-loop
 unfolding numberedCodec
 loop-again-2 c =
-    let v = c .before in
-    let n = v .before .before .before in
-    let l = n .before .before .before .loop in
-    let filter = now (n .before .before .before .before .before .before .args .filter) in
-    let clear = note-invalid _ filter _ (n .number-at .ensures) (v .before .before .if1 .taken) (v .before .numbered-text .ensures) (v .valid-filter .ensures) (c .if2 .left) in
-    (omega arith, sym (some-more noteCodec (l .at) _ _ (omega arith) (omega arith) clear) ∙ l .inv .1)
-
-loop-less-3 : tie.Need-loop-less-3 Inv-loop μ-loop
-loop-less-3 c = omega arith
-
-loop-again-3 : tie.Need-loop-again-3 Inv-loop μ-loop
-unfolding numberedCodec
-loop-again-3 c =
     let n = c .before in
     let l = n .before .before .before .loop in
     let filter = now (n .before .before .before .before .before .before .args .filter) in
@@ -117,13 +99,10 @@ note-clears-spec =
     part-row-end
     number-at-requires
     numbered-text-requires
-    valid-filter-requires
-    tree-match-requires
+    text-clears-requires
     returns
     loop-less
     loop-again
     loop-less-2
     loop-again-2
-    loop-less-3
-    loop-again-3
     returns-2)
