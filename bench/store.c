@@ -1,7 +1,7 @@
 /* Times the check behind number 3 and the questions on a store, beside a plain scan of its bytes and the reading of its rules, in one
    run. store WHAT REPEATS: one row alone, for a profiler. store EVENT ROWS REPEATS: an event on a store whose F and N are ROWS, all
    used, each time on a copy of it; alike and twice are the check where all rows are alike but for their last bytes, and where two are
-   equal. Linked with target/staticlib/libmqtt_acl.a. */
+   equal. store OWNED ROWS REPEATS and store owned: a disconnect of a client that owns all rows. Linked with target/staticlib/libmqtt_acl.a. */
 #include <stdbool.h>
 #include <stdint.h>
 #include <stdio.h>
@@ -179,8 +179,95 @@ static void event(const char *what, unsigned rows) {
         if (asks("n0", 2) == 16 * 2 + 1) exit(1);
 }
 
+/* A disconnect of client g0, which owns all filter rows, with as many notes of its session.
+   cleared: row i is note i, so all rows go. stay: no row matches a note; short texts, which soon differ, as those of ids and names do.
+   late: 256 bytes, of which a row and a note share 253. wild: 126 levels `+`, and a last level that no note has.
+   invalid: each row matches each note by its levels, and no note is a valid filter, which only its last byte shows. */
+static const char *const owned[] = {"cleared", "stay", "late", "wild", "invalid"};
+
+static unsigned times(uint8_t *text, unsigned count, const char *part) {
+    for (unsigned i = 0; i < count; i++) memcpy(text + i * strlen(part), part, strlen(part));
+    return count * strlen(part);
+}
+
+static unsigned owned_text(uint8_t *text, const char *what, bool note, unsigned i) {
+    unsigned n = 0;
+    char end[3] = {'0' + i / 64, '0' + i % 64, 0};
+    if (!strcmp(what, "cleared")) return sprintf((char *)text, "bench/g0/set%u", i);
+    if (!strcmp(what, "stay")) return sprintf((char *)text, note ? "bench/g0/log%u" : "bench/g0/set%u", i);
+    if (!strcmp(what, "late")) n = times(text, 253, "a") + times(text + 253, 1, note ? "n" : "r");
+    if (!strcmp(what, "wild")) n = times(text, 126, note ? "a/" : "+/") + times(text + 252, 1, note ? "n" : "r");
+    if (!strcmp(what, "invalid")) {
+        n = times(text, 227, "a");
+        for (int bit = 0; bit < 12; bit++) n += times(text + n, 1, !note && i >> bit & 1 ? "/+" : "/a");
+        n += times(text + n, 1, note ? "/" : "/#");
+        if (!note) return n;
+    }
+    n += times(text + n, 1, end);
+    return !strcmp(what, "invalid") ? n + times(text + n, 1, "+") : n;
+}
+
+static bool is_owned(const char *what) {
+    for (int i = 0; i < 5; i++)
+        if (!strcmp(what, owned[i])) return true;
+    return false;
+}
+
+static void make_owned(const char *what, unsigned rows) {
+    const char *text = "[\"deny\",\"all\",\"pubsub\"]\n";
+    free(store);
+    length = 16 + 2048 + 326ul * rows + 260 + 260ul * rows;
+    store = calloc(length, 1);
+    if (acl_open(store, length, 2048, rows, 1, rows, (Text)text, strlen(text)) != 0) exit(1);
+    uint8_t *row = store + 16 + 2048;
+    for (unsigned i = 0; i < rows; i++, row += 326) {
+        number(row + 2, owned_text(row + 6, what, false, i));
+        number(row + 4, sprintf((char *)row + 262, "g0"));
+    }
+    row += 260;
+    for (unsigned i = 0; i < rows; i++, row += 260) number(row + 2, owned_text(row + 4, what, true, i));
+    number(store + 10, rows);
+    number(store + 14, rows);
+}
+
+static void disconnect_owner(const char *what, unsigned rows) {
+    unsigned left = !strcmp(what, "cleared") ? 0 : rows;
+    if (acl_disconnected(store, length, 0, (Text) "g0", 2) != 0 || store[10] + 256u * store[11] != left) exit(1);
+}
+
+/* Milliseconds of such a disconnect, the least of three. */
+static double owned_time(const char *what, unsigned rows) {
+    double least = 0;
+    make_owned(what, rows);
+    uint8_t *kept = malloc(length);
+    memcpy(kept, store, length);
+    for (int round = 0; round < 3; round++) {
+        struct timespec a, b;
+        memcpy(store, kept, length);
+        clock_gettime(CLOCK_MONOTONIC, &a);
+        disconnect_owner(what, rows);
+        clock_gettime(CLOCK_MONOTONIC, &b);
+        double t = (b.tv_sec - a.tv_sec) * 1e3 + (b.tv_nsec - a.tv_nsec) / 1e6;
+        if (round == 0 || t < least) least = t;
+    }
+    free(kept);
+    return least;
+}
+
+static void owned_times(void) {
+    for (unsigned rows = 64; rows <= 4096; rows *= 8) {
+        printf("%6u", rows);
+        for (int i = 0; i < 5; i++) printf(" %14.3f", owned_time(owned[i], rows));
+        printf("\n");
+        fflush(stdout);
+    }
+}
+
 static void events(const char *what, unsigned rows, long repeats) {
-    make_full(rows, !strcmp(what, "new"));
+    if (is_owned(what))
+        make_owned(what, rows);
+    else
+        make_full(rows, !strcmp(what, "new"));
     if (!strcmp(what, "alike") || !strcmp(what, "twice")) {
         make_alike(16 + 2048, 326, rows, false);
         make_alike(16 + 2048 + 326ul * rows + 260ul * 32, 260, rows, !strcmp(what, "twice"));
@@ -189,13 +276,20 @@ static void events(const char *what, unsigned rows, long repeats) {
     memcpy(kept, store, length);
     for (long i = 0; i < repeats; i++) {
         memcpy(store, kept, length);
-        event(what, rows);
+        if (is_owned(what))
+            disconnect_owner(what, rows);
+        else
+            event(what, rows);
     }
 }
 
 int main(int count, char **words) {
     if (count == 4) {
         events(words[1], atoi(words[2]), atol(words[3]));
+        return 0;
+    }
+    if (count == 2 && !strcmp(words[1], "owned")) {
+        owned_times();
         return 0;
     }
     if (count == 3) {
