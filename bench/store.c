@@ -218,7 +218,7 @@ static void make_owned(const char *what, unsigned rows) {
     free(store);
     length = 16 + 2048 + 326ul * rows + 260 + 260ul * rows;
     store = calloc(length, 1);
-    if (acl_open(store, length, 2048, rows, 1, rows, (Text)text, strlen(text)) != 0) exit(1);
+    if (mqtt_acl_open(store, length, 2048, rows, 1, rows, (Text)text, strlen(text)) != 0) exit(1);
     uint8_t *row = store + 16 + 2048;
     for (unsigned i = 0; i < rows; i++, row += 326) {
         number(row + 2, owned_text(row + 6, what, false, i));
@@ -232,7 +232,7 @@ static void make_owned(const char *what, unsigned rows) {
 
 static void disconnect_owner(const char *what, unsigned rows) {
     unsigned left = !strcmp(what, "cleared") ? 0 : rows;
-    if (acl_disconnected(store, length, 0, (Text) "g0", 2) != 0 || store[10] + 256u * store[11] != left) exit(1);
+    if (mqtt_acl_disconnected(store, length, 0, (Text) "g0", 2) != 0 || store[10] + 256u * store[11] != left) exit(1);
 }
 
 /* Milliseconds of such a disconnect, the least of three. */
