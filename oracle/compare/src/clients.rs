@@ -4,6 +4,7 @@ use std::time::Instant;
 
 use oracle::clients::{self, Asked, Times};
 use oracle::generate::Random;
+use oracle::json::generate::with_line_feed;
 
 use crate::phases::in_blocks;
 use crate::tally::Tally;
@@ -53,12 +54,16 @@ pub fn short() -> Tally {
     })
 }
 
-/// C of random rules and damaged copies, until the time is up.
+/// C of random rules and damaged copies, some with one more LF, until the time is up.
 pub fn random(seed: u64, until: Instant) -> Tally {
     in_blocks(|block, tally| {
         let mut r = Random::of_block(seed, block as u64);
         for _ in 0..500 {
-            clients::generate::questions(&mut r).iter().for_each(|asked| compare(asked, tally));
+            let mut questions = clients::generate::questions(&mut r);
+            if let Some(rules) = with_line_feed(&mut r, &questions[0].rules) {
+                questions.push(Asked { rules, ..questions[0].clone() });
+            }
+            questions.iter().for_each(|asked| compare(asked, tally));
         }
         Instant::now() < until
     })

@@ -9,6 +9,7 @@ use oracle::cases::Kind;
 use oracle::decide::Machine;
 use oracle::events::{self, History};
 use oracle::generate::{self, Random, ALPHABET, LIMIT};
+use oracle::json::generate::with_line_feed;
 use oracle::json::lines::RICH;
 use oracle::json::short::{families, Family};
 use oracle::json::{self, judge, Judged};
@@ -147,7 +148,7 @@ pub fn damaged_lines() -> Tally {
     })
 }
 
-/// J and L of random lines and damaged copies, until the time is up.
+/// J and L of random lines and damaged copies, some with an LF, until the time is up.
 pub fn random_lines(seed: u64, until: Instant) -> Tally {
     in_blocks(|block, tally| {
         let mut r = Random::of_block(seed, block as u64);
@@ -157,6 +158,7 @@ pub fn random_lines(seed: u64, until: Instant) -> Tally {
             for _ in 0..3 {
                 compare_line(&json::generate::damaged(&mut r, &line), tally);
             }
+            with_line_feed(&mut r, &line).iter().for_each(|line| compare_line(line, tally));
         }
         Instant::now() < until
     })
@@ -213,7 +215,7 @@ pub fn damaged_rules() -> Tally {
     })
 }
 
-/// R and I of random rules and damaged copies, until the time is up.
+/// R and I of random rules and damaged copies, some with an LF, until the time is up.
 pub fn random_rules(seed: u64, until: Instant) -> Tally {
     in_blocks(|block, tally| {
         let mut r = Random::of_block(seed, block as u64);
@@ -221,6 +223,7 @@ pub fn random_rules(seed: u64, until: Instant) -> Tally {
             let elements = rules::generate::elements(&mut r);
             let mut lines = vec![rules::generate::line(&mut r, &elements)];
             lines.extend((0..3).map(|_| rules::generate::damaged(&mut r, &elements)));
+            lines.extend(with_line_feed(&mut r, &lines[0]));
             for line in &lines {
                 let clients: Vec<_> = (0..4).map(|_| rules::generate::client(&mut r, line)).collect();
                 compare_rule(line, &clients, tally);
@@ -322,6 +325,7 @@ pub fn random_questions(seed: u64, until: Instant) -> Tally {
             let text = list.text();
             let mut store = Store::new(if text.len() <= 2_048 { 2_048 } else { questions::ROOM as u64 });
             compare_open(&mut store, &questions::generate::damaged(&mut r, &list), tally);
+            with_line_feed(&mut r, &text).iter().for_each(|text| compare_open(&mut store, text, tally));
             compare_open(&mut store, &text, tally);
             let machine = list.machine(&runtime);
             for asked in questions::generate::questions(&mut r, &list) {

@@ -17,7 +17,7 @@ use crate::histories::Judged as JudgedStep;
 /// The rows of the table: kind and the Rust's answer. Intended are answers no to
 /// a line that serde_json reads, or the plugin takes for a rule, and document 01
 /// doesn't; and an address that only document 01 can have.
-const ROWS: [(&str, &str); 110] = [
+const ROWS: [(&str, &str); 112] = [
     ("V", "yes"),
     ("V", "no"),
     ("T", "yes"),
@@ -28,6 +28,7 @@ const ROWS: [(&str, &str); 110] = [
     ("J", "no"),
     ("J", "intended: numbers"),
     ("J", "intended: depth"),
+    ("J", "intended: LF"),
     ("L", "yes"),
     ("L", "no"),
     ("R", "yes"),
@@ -37,6 +38,7 @@ const ROWS: [(&str, &str); 110] = [
     ("R", "intended: numbers"),
     ("R", "intended: depth"),
     ("R", "intended: lengths"),
+    ("R", "intended: LF"),
     ("I", "differs"),
     ("I", "agrees"),
     ("I", "superuser"),
@@ -130,19 +132,31 @@ const ROWS: [(&str, &str); 110] = [
     ("W", "intended: 5, depth"),
 ];
 
-/// Where the rows of questions begin, of Q and of E, and those of events.
-const QUESTIONS: usize = 27;
-const EVENTS: usize = 43;
-const IN_BETWEEN: usize = 55;
-/// Those of inputs, and of what is said of their lines.
-const INPUTS: usize = 89;
-const SAID: usize = 94;
+/// The first row of a kind.
+const fn first(kind: u8) -> usize {
+    let mut row = 0;
+    while ROWS[row].0.as_bytes()[0] != kind {
+        row += 1;
+    }
+    row
+}
+
+const DOCUMENTS: usize = first(b'J');
+const WITHIN: usize = first(b'L');
+const RULES: usize = first(b'R');
+const IDENTITIES: usize = first(b'I');
+const OPENINGS: usize = first(b'O');
+const QUESTIONS: usize = first(b'Q');
+const EVENTS: usize = first(b'E');
+/// Questions in between.
+const IN_BETWEEN: usize = EVENTS + 12;
+const CLIENTS: usize = first(b'C');
+const EXPIRY: usize = first(b'X');
+const INPUTS: usize = first(b'W');
+/// What is said of their lines.
+const SAID: usize = INPUTS + 5;
 const WORDS: [&str; 6] = ["done", "kept", "allow", "super", "refuse", "drop"];
 const ERRORS: [u32; 7] = [1, 2, 5, 7, 8, 9, 10];
-
-/// The first row of C, and of X.
-const CLIENTS: usize = 71;
-const EXPIRY: usize = CLIENTS + 15;
 
 /// So many differences of a row of Q, E or W are reduced, on each processor: it takes its time.
 const REDUCED: u64 = 20;
@@ -216,12 +230,14 @@ impl Tally {
 
     /// Counts one line of J.
     pub fn count_document(&mut self, line: &[u8], judged: Judged, port: bool) {
-        let row = match judged {
-            Judged::Document { .. } => 6,
-            Judged::Refused => 7,
-            Judged::Number => 8,
-            Judged::Deep => 9,
-        };
+        let row = DOCUMENTS
+            + match judged {
+                Judged::Document { .. } => 0,
+                Judged::Refused => 1,
+                Judged::Number => 2,
+                Judged::Deep => 3,
+                Judged::LineFeed => 4,
+            };
         self.cases[row] += 1;
         if judged.is_document() != port {
             self.differ(row, Asked::Document(line.into()));
@@ -230,7 +246,7 @@ impl Tally {
 
     /// Counts one line of L.
     pub fn count_within(&mut self, line: &[u8], most: usize, rust: bool, port: bool) {
-        let row = 10 + !rust as usize;
+        let row = WITHIN + !rust as usize;
         self.cases[row] += 1;
         if rust != port {
             self.differ(row, Asked::Within(line.into(), most));
@@ -239,15 +255,17 @@ impl Tally {
 
     /// Counts one line of R.
     pub fn count_rule(&mut self, line: &[u8], verdict: Verdict, port: u8) {
-        let row = match verdict {
-            Verdict::Rule => 12,
-            Verdict::Refused(1) => 13,
-            Verdict::Refused(5) => 14,
-            Verdict::Refused(_) => 15,
-            Verdict::Number => 16,
-            Verdict::Deep => 17,
-            Verdict::Long => 18,
-        };
+        let row = RULES
+            + match verdict {
+                Verdict::Rule => 0,
+                Verdict::Refused(1) => 1,
+                Verdict::Refused(5) => 2,
+                Verdict::Refused(_) => 3,
+                Verdict::Number => 4,
+                Verdict::Deep => 5,
+                Verdict::Long => 6,
+                Verdict::LineFeed => 7,
+            };
         self.cases[row] += 1;
         if verdict.number() != port {
             self.differ(row, Asked::Rule(line.into(), port));
@@ -256,14 +274,15 @@ impl Tally {
 
     /// Counts one question of I.
     pub fn count_identity(&mut self, line: &[u8], client: &Client, rust: Identity, port: u8) {
-        let row = match rust {
-            Identity::Differs => 19,
-            Identity::Agrees => 20,
-            Identity::Superuser => 21,
-            Identity::NoRule => 22,
-            Identity::RustOnly => 23,
-            Identity::NoAddress(_) => 24,
-        };
+        let row = IDENTITIES
+            + match rust {
+                Identity::Differs => 0,
+                Identity::Agrees => 1,
+                Identity::Superuser => 2,
+                Identity::NoRule => 3,
+                Identity::RustOnly => 4,
+                Identity::NoAddress(_) => 5,
+            };
         self.cases[row] += 1;
         if rust.number() != port {
             self.differ(row, Asked::Identity(line.into(), client.clone(), port));
@@ -272,7 +291,7 @@ impl Tally {
 
     /// Counts one opening. `as_meant`: the store has the bytes that it should have.
     pub fn count_open(&mut self, text: &[u8], judged: u32, port: u32, as_meant: bool) {
-        let row = 25 + (judged != 0) as usize;
+        let row = OPENINGS + (judged != 0) as usize;
         self.cases[row] += 1;
         if judged != port || !as_meant {
             self.differ(row, Asked::Open(text.into(), judged, port));
@@ -459,7 +478,7 @@ fn done_row(event: &Event) -> usize {
 }
 
 fn place<T: PartialEq>(all: &[T], one: &T) -> usize {
-    all.iter().position(|other| other == one).expect("a word or number of document 01")
+    all.iter().position(|other| other == one).expect("a row of the table")
 }
 
 /// The row of what is said of a line of `decide`, among those.

@@ -35,9 +35,31 @@ fn restrictions() {
         (r#"{"a":[[[[[[[[]]]]]]]],"a":1}"#, Judged::Deep),
         (r#"{"a":"long","a":1}"#, document(4)),
         (r#"{"\u00e9\uD834\uDD1E":1}"#, document(6)),
+        // "LF ends a line": what holds one isn't one line, wherever it is.
+        ("0\n", Judged::LineFeed),
+        ("\n[0,\n-1]", Judged::LineFeed),
+        ("\n", Judged::Refused),
+        ("1\n2", Judged::Refused),
+        ("\"\n\"", Judged::Refused),
+        (r#""\n""#, document(1)),
     ] {
         assert_eq!(judge(line.as_bytes()), judged, "{line}");
     }
+}
+
+/// Of the lines with an LF most are read by serde_json: there it is a blank.
+#[test]
+fn line_feeds() {
+    let mut r = Random::new(1);
+    let (mut lines, mut read) = (0, 0);
+    for _ in 0..20_000 {
+        let line = generate::line(&mut r);
+        let Some(with) = generate::with_line_feed(&mut r, &line) else { continue };
+        assert!(with.contains(&b'\n') && !judge(&with).is_document());
+        lines += 1;
+        read += (judge(&with) == Judged::LineFeed) as usize;
+    }
+    assert!(lines > 1_500 && 2 * read > lines, "{lines} {read}");
 }
 
 /// Depth, plain numbers and longest string, taken from the value.

@@ -1,6 +1,7 @@
 //! The judge of rules: the original's answer with document 01's restrictions.
 
 use oracle::generate::Random;
+use oracle::json::generate::with_line_feed;
 use oracle::rules::short::{rule, users, RULES};
 use oracle::rules::{generate, judge, Client, Identity, Lent, Verdict};
 
@@ -27,6 +28,10 @@ fn rules_by_hand() {
         (r#"["allow","all",null]"#.into(), Verdict::Refused(6)),
         (r#"["allow","all","all",null]"#.into(), Verdict::Refused(6)),
         ("[".into(), Verdict::Refused(5)),
+        // An LF as a blank; the length comes first.
+        ("[\"allow\",\n\"all\"]".into(), Verdict::LineFeed),
+        ("[\"allow\",\n\"al\"]".into(), Verdict::Refused(5)),
+        (line(2_048) + "\n", Verdict::Long),
         // The limits, and the order of the numbers.
         (text(256), Verdict::Rule),
         (text(257), Verdict::Long),
@@ -79,10 +84,12 @@ fn identities_by_hand() {
 #[test]
 fn random_rules() {
     let mut r = Random::new(1);
-    let mut counts = [0; 7];
+    let mut counts = [0; 8];
     for _ in 0..20_000 {
         let elements = generate::elements(&mut r);
-        for line in [generate::line(&mut r, &elements), generate::damaged(&mut r, &elements)] {
+        let mut lines = vec![generate::line(&mut r, &elements), generate::damaged(&mut r, &elements)];
+        lines.extend(with_line_feed(&mut r, &lines[0]));
+        for line in lines {
             let verdict = judge(&line).verdict;
             counts[match verdict {
                 Verdict::Rule => 0,
@@ -92,6 +99,7 @@ fn random_rules() {
                 Verdict::Number => 4,
                 Verdict::Deep => 5,
                 Verdict::Long => 6,
+                Verdict::LineFeed => 7,
             }] += 1;
         }
     }

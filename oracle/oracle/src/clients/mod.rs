@@ -106,10 +106,10 @@ fn line_rule(line: &[u8], client: &ConnectInfo) -> Result<Rule, (u64, bool)> {
     let reads = rule.is_some();
     match judge_json(line) {
         _ if line.len() > LINE => Err((1, reads)),
-        json::Judged::Refused | json::Judged::Number | json::Judged::Deep => Err((5, reads)),
         json::Judged::Document { longest } if longest > LIMIT => Err((1, reads)),
         json::Judged::Document { .. } if filled(&value.unwrap(), client) > LIMIT => Err((7, reads)),
         json::Judged::Document { .. } => rule.ok_or((6, false)),
+        _ => Err((5, reads)),
     }
 }
 

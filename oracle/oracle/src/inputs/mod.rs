@@ -97,7 +97,8 @@ pub fn judge(input: &[u8], runtime: &Runtime) -> Judged {
 fn said(judge: &mut Judge, line: &[u8], runtime: &Runtime) -> Said {
     match json::judge(line) {
         _ if line.len() > rules::LINE => return Said::Beyond(Beyond::Length),
-        json::Judged::Refused => return Said::Error(MALFORMED),
+        // A line of an input holds no LF.
+        json::Judged::Refused | json::Judged::LineFeed => return Said::Error(MALFORMED),
         json::Judged::Number => return Said::Beyond(Beyond::Numbers),
         json::Judged::Deep => return Said::Beyond(Beyond::Depth),
         json::Judged::Document { .. } => (),

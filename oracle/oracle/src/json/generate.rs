@@ -285,6 +285,28 @@ pub fn damaged(r: &mut Random, line: &[u8]) -> Vec<u8> {
     line
 }
 
+/// One of ten: the line with an LF as a blank, at an end or beside a bracket, a comma or a colon; now and
+/// then anywhere.
+pub fn with_line_feed(r: &mut Random, line: &[u8]) -> Option<Vec<u8>> {
+    if !r.percent(10) {
+        return None;
+    }
+    let (mut places, mut inside) = (vec![0, line.len()], false);
+    for (at, byte) in line.iter().enumerate() {
+        match byte {
+            b'"' if at == 0 || line[at - 1] != b'\\' => inside = !inside,
+            b'[' | b']' | b'{' | b'}' | b',' | b':' if !inside => places.extend([at, at + 1]),
+            _ => (),
+        }
+    }
+    if r.percent(10) {
+        places = (0..=line.len()).collect();
+    }
+    let mut line = line.to_vec();
+    line.insert(places[r.below(places.len())], b'\n');
+    Some(line)
+}
+
 /// Any but LF, often one that means something.
 fn byte(r: &mut Random) -> u8 {
     const MEANING: &[u8] = b"[]{},:\"\\/019-+.eEutfnbrdD \t\r\x00\x1f\x7f\x80\xbf\xc3\xed\xf4";

@@ -23,12 +23,18 @@ pub enum Judged {
     Number,
     /// serde_json reads it, with more than `DEPTH` brackets open at once.
     Deep,
+    /// serde_json reads it, with an LF as a blank. "LF ends a line": what holds one isn't one line.
+    LineFeed,
 }
 
-/// The judge. Where both restrictions apply the number counts.
+/// The judge. Where several restrictions apply the LF counts, then the number.
 pub fn judge(line: &[u8]) -> Judged {
     if serde_json::from_slice::<Value>(line).is_err() {
         return Judged::Refused;
+    }
+    // serde_json refuses an LF in a string, so this one is outside.
+    if line.contains(&b'\n') {
+        return Judged::LineFeed;
     }
     let Reading { depth, plain, longest } = serde_json::from_slice(line).expect("a Value was read");
     match (plain, depth <= DEPTH) {

@@ -34,9 +34,9 @@ fn words(text: &str) -> Vec<Vec<u8>> {
     text.split_whitespace().map(|word| word.into()).collect()
 }
 
-/// Every byte that a line can hold.
-pub fn bytes() -> impl Iterator<Item = u8> {
-    (0..=255).filter(|b| *b != b'\n')
+/// Every byte, LF too: a line that is handed over can hold it.
+fn bytes() -> impl Iterator<Item = u8> {
+    0..=255
 }
 
 /// Bytes on both sides of each boundary of UTF-8.
@@ -49,10 +49,13 @@ pub fn families() -> Vec<Family> {
     let hex = words("0 1 7 8 9 a b c d e f A B C D E F g");
     let mut structure = words(r#"[ ] { } , : "a" 1"#);
     structure.push(b" ".to_vec());
+    let mut feeds = words(r#"[ ] , " 0"#);
+    feeds.push(b"\n".to_vec());
     let family = |name, before, tokens, after, length| Family { name, before, tokens, after, length };
     vec![
         family("texts", b"", words(r#"[ ] { } , : " \ 0 1 t a"#), b"", 6),
         family("structure", b"", structure, b"", 7),
+        family("line feeds", b"", feeds, b"", 7),
         family("numbers", b"", words("0 1 9 - + . e E"), b"", 6),
         family("large numbers", b"1844674407370955161", words("0 1 4 5 6 9 . - e"), b"", 4),
         family("words", b"", words("t r u e f a l s n"), b"", 5),

@@ -30,6 +30,8 @@ pub enum Verdict {
     Deep,
     /// .. a line, a string or an array of topics over its limit.
     Long,
+    /// .. an LF in it: not one line.
+    LineFeed,
 }
 
 impl Verdict {
@@ -38,7 +40,7 @@ impl Verdict {
         match self {
             Verdict::Rule => 0,
             Verdict::Refused(number) => number,
-            Verdict::Number | Verdict::Deep => 5,
+            Verdict::Number | Verdict::Deep | Verdict::LineFeed => 5,
             Verdict::Long => 1,
         }
     }
@@ -61,6 +63,7 @@ pub fn judge(line: &[u8]) -> Judged {
         json::Judged::Refused => Verdict::Refused(5),
         json::Judged::Number => Verdict::Number,
         json::Judged::Deep => Verdict::Deep,
+        json::Judged::LineFeed => Verdict::LineFeed,
         json::Judged::Document { longest } if longest > LIMIT => Verdict::Long,
         json::Judged::Document { .. } if topics.is_some_and(|t| t.len() > TOPICS) => Verdict::Long,
         json::Judged::Document { .. } => Verdict::Rule,
