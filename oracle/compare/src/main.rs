@@ -1,4 +1,4 @@
-//! compare [SECONDS] [--seed N] [--length N] [--only KIND]
+//! compare [SECONDS] [--seed N] [--length N] [--only KIND] [--write]
 //!
 //! Compares the port's exported functions with the original Rust: V, whether a
 //! text is a valid filter; T, the tree match; P, the plain match. First all
@@ -14,11 +14,14 @@
 //! questions, first of all rules of a few parts, then random ones for a seventh; X,
 //! expiry, ten million times. And W, whole inputs of the program `decide`: first those
 //! of the program `replays` and some that are always asked, then random ones for a seventh.
-//! With --only the phases that name the kind. Exit status 1 if anything differs.
+//! With --only the phases that name the kind. With --write docs/COMPARISON.md is written, whole,
+//! from this run; not where crates/ or oracle/ changed meanwhile. Exit status 1 if anything differs,
+//! 2 if it can't be written.
 
 mod clients;
 mod histories;
 mod inputs;
+mod page;
 mod phases;
 mod store;
 mod tally;
@@ -26,17 +29,24 @@ mod tally;
 use std::process::ExitCode;
 use std::time::{Duration, Instant};
 
+use page::Page;
 use tally::{grouped, Tally};
+
+/// All pairs of T and P have texts up to this length, if no other is asked for; all texts of V are up to so
+/// much longer.
+const LENGTH: usize = 7;
+const LONGER: usize = 3;
 
 struct Options {
     seconds: u64,
     seed: u64,
     length: usize,
     only: Option<String>,
+    write: bool,
 }
 
 fn options() -> Result<Options, String> {
-    let mut options = Options { seconds: 60, seed: 1, length: 7, only: None };
+    let mut options = Options { seconds: 60, seed: 1, length: LENGTH, only: None, write: false };
     let mut args = std::env::args().skip(1);
     let number = |arg: Option<String>| -> Result<u64, String> {
         let arg = arg.ok_or("a number is missing")?;
@@ -47,6 +57,7 @@ fn options() -> Result<Options, String> {
             "--seed" => options.seed = number(args.next())?,
             "--only" => options.only = args.next(),
             "--length" => options.length = number(args.next())? as usize,
+            "--write" => options.write = true,
             _ => options.seconds = number(Some(arg))?,
         }
     }
@@ -67,16 +78,38 @@ fn phase(only: &Option<String>, name: &str, all: &mut Tally, run: impl FnOnce() 
 }
 
 fn main() -> ExitCode {
-    let Options { seconds, seed, length, only } = match options() {
-        Ok(options) => options,
+    let begun = options().and_then(|options| {
+        let page = options.write.then(|| Page::new(&options)).transpose()?;
+        Ok((options, page))
+    });
+    let (options, page) = match begun {
+        Ok(begun) => begun,
         Err(error) => {
-            eprintln!("compare [SECONDS] [--seed N] [--length N] [--only KIND]: {error}");
+            eprintln!("compare [SECONDS] [--seed N] [--length N] [--only KIND] [--write]: {error}");
             return ExitCode::from(2);
         }
     };
+    let all = compared(&options);
+    println!("\n{all}");
+    all.covered().into_iter().for_each(|covered| println!("{covered}"));
+    if let Some(Err(error)) = page.map(|page| page.write(&options, &all)) {
+        eprintln!("{error}");
+        return ExitCode::from(2);
+    }
+    if all.differences() == 0 {
+        ExitCode::SUCCESS
+    } else {
+        ExitCode::FAILURE
+    }
+}
+
+/// All phases, one after the other.
+fn compared(options: &Options) -> Tally {
+    let Options { seconds, seed, length, only, .. } = options;
+    let (seconds, seed, length) = (*seconds, *seed, *length);
     let mut all = Tally::default();
-    let phase = |name: &str, all: &mut Tally, run: &dyn Fn() -> Tally| phase(&only, name, all, run);
-    let longer = length + 3;
+    let phase = |name: &str, all: &mut Tally, run: &dyn Fn() -> Tally| phase(only, name, all, run);
+    let longer = length + LONGER;
     phase(&format!("V, all texts up to {longer} bytes"), &mut all, &|| phases::short_filters(longer));
     phase(&format!("T and P, all pairs up to {length} bytes"), &mut all, &|| phases::short_pairs(length));
     phase("J and L, all short lines", &mut all, &phases::short_lines);
@@ -98,11 +131,5 @@ fn main() -> ExitCode {
     phase(&format!("C, random, seed {seed}"), &mut all, &|| clients::random(seed, part()));
     phase(&format!("X, random, seed {seed}"), &mut all, &|| clients::expiries(seed));
     phase(&format!("W, random, seed {seed}"), &mut all, &|| inputs::random(seed, part()));
-    println!("\n{all}");
-    all.covered().into_iter().for_each(|covered| println!("{covered}"));
-    if all.differences() == 0 {
-        ExitCode::SUCCESS
-    } else {
-        ExitCode::FAILURE
-    }
+    all
 }

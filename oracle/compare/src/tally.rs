@@ -442,6 +442,17 @@ impl Tally {
         })
     }
 
+    /// The row's cases and differences, by its kind and answer.
+    pub fn row(&self, kind: &str, answer: &str) -> (u64, u64) {
+        let row = place(&ROWS, &(kind, answer));
+        (self.cases[row], self.differences[row])
+    }
+
+    /// All rows, each by its kind and answer.
+    pub fn rows() -> impl Iterator<Item = (&'static str, &'static str)> {
+        ROWS.into_iter()
+    }
+
     pub fn total(&self) -> u64 {
         self.cases.iter().sum()
     }
