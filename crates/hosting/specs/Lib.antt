@@ -1,0 +1,3 @@
+pub mod Hosting
+pub mod Walk
+pub mod Claims
