@@ -1,6 +1,6 @@
 /* Tests of mqtt_acl.h. What is read from an answer's number, on every number that an answer can be and up to the largest; each call with NULL and
    length 0 for each address, each flag at every value, each text at its longest and one past it, each number that can be
-   refused up to the largest; each inline call, with texts that tell its parameters apart. Built and run by include/check. */
+   refused up to the largest; each inline call, with texts that tell its parameters apart; what is said of a client's life. Built and run by include/check. */
 #include <stdio.h>
 #include <stdlib.h>
 
@@ -48,6 +48,8 @@ static void unpacks(void) {
     CHECK(mqtt_acl_open_refusal(UINT32_MAX) == 255 && mqtt_acl_open_line(UINT32_MAX) == UINT32_MAX / 256);
     static const char *const words[] = {"error", "kept", "allow", "super", "allow", "allow", "allow", "allow",
                                         "refuse", "refuse", "drop", "refuse", "none", "valid", "expired"};
+    CHECK(strcmp(mqtt_acl_refusal_words(0), "done") == 0 && strcmp(mqtt_acl_refusal_words(10), "no room for the note rows") == 0);
+    CHECK(strcmp(mqtt_acl_refusal_words(11), mqtt_acl_refusal_words(255)) == 0);
     for (unsigned what = 0; what < 15; what++) CHECK(strcmp(mqtt_acl_answer_word(16 * 256 + what), words[what]) == 0);
 }
 
@@ -355,6 +357,43 @@ static void earlier(void) {
     }
 }
 
+static unsigned may_publish(mqtt_acl_store store, const mqtt_acl_client *c, const char *topic) {
+    return mqtt_acl_answer_allows(mqtt_acl_ask_publish(store, FIRST, c, mqtt_acl_string(topic), 0));
+}
+
+/* What the header says of a client's life. */
+static void life(void) {
+    static uint8_t bytes[16 + 512 + 326 * 8 + 260 + 260 * 8], opened[sizeof bytes];
+    const mqtt_acl_counts counts = {512, 8, 1, 8};
+    const mqtt_acl_store store = mqtt_acl_store_in(bytes, sizeof bytes);
+    const mqtt_acl_client g7 = {{"g7", 2}, {NULL, 0}, {NULL, 0}, {NULL, 0}, 0, 0}, g8 = {{"g8", 2}, {NULL, 0}, {NULL, 0}, {NULL, 0}, 0, 0},
+                          wide = {{"+", 1}, {NULL, 0}, {NULL, 0}, {NULL, 0}, 0, 0};
+    CHECK(mqtt_acl_tell_open(store, counts, mqtt_acl_string("[\"allow\",\"all\",\"pubsub\",[\"bench/%c/#\"]]")) == 0);
+    memcpy(opened, bytes, sizeof bytes);
+    /* A disconnected that is told late takes the rows of the connection that took over. */
+    CHECK(mqtt_acl_tell_connected(store, 1, &g7) == 0 && mqtt_acl_tell_connected(store, 2, &g7) == 0 && may_publish(store, &g7, "bench/g7/a"));
+    CHECK(mqtt_acl_tell_disconnected(store, 1, &g7) == 0 && !may_publish(store, &g7, "bench/g7/a"));
+    CHECK(mqtt_acl_tell_ended(store, 1) == 0 && mqtt_acl_tell_ended(store, 2) == 0 && memcmp(bytes, opened, sizeof bytes) == 0);
+    /* One session number for all: enter by connected, ended; leave by connected, disconnected, ended. */
+    CHECK(mqtt_acl_tell_connected(store, 0, &g7) == 0 && mqtt_acl_tell_ended(store, 0) == 0);
+    CHECK(mqtt_acl_tell_connected(store, 0, &g8) == 0 && mqtt_acl_tell_ended(store, 0) == 0);
+    CHECK(may_publish(store, &g7, "bench/g7/a") && may_publish(store, &g8, "bench/g8/a") && !may_publish(store, &g8, "bench/g7/a"));
+    CHECK(mqtt_acl_answer_allows(mqtt_acl_ask_subscribe(store, FIRST, &g7, mqtt_acl_string("bench/g7/a"), 0)));
+    CHECK(mqtt_acl_tell_connected(store, 0, &g7) == 0 && mqtt_acl_tell_disconnected(store, 0, &g7) == 0 && mqtt_acl_tell_ended(store, 0) == 0);
+    CHECK(!may_publish(store, &g7, "bench/g7/a") && may_publish(store, &g8, "bench/g8/a"));
+    CHECK(mqtt_acl_tell_connected(store, 0, &g8) == 0 && mqtt_acl_tell_disconnected(store, 0, &g8) == 0 && mqtt_acl_tell_ended(store, 0) == 0);
+    CHECK(memcmp(bytes, opened, sizeof bytes) == 0);
+    /* An id that widens a rule. */
+    CHECK(mqtt_acl_tell_connected(store, 0, &wide) == 0 && may_publish(store, &wide, "bench/g7/a"));
+    /* A superuser is judged as anyone once it is in, and a password is asked in every question. */
+    mqtt_acl_client bo = {{"g7", 2}, {"bo", 2}, {"pw", 2}, {NULL, 0}, 0, 0};
+    CHECK(mqtt_acl_tell_open(store, counts, mqtt_acl_string("[\"allow\",{\"user\":\"bo\",\"password\":\"pw\",\"superuser\":true},\"connect\"]\n"
+                                                            "[\"allow\",{\"user\":\"bo\",\"password\":\"pw\"},\"publish\",[\"a\"]]\n")) == 0);
+    CHECK(mqtt_acl_answer_superuser(mqtt_acl_ask_connect(store, FIRST_CONNECT, &bo)) && may_publish(store, &bo, "a") && !may_publish(store, &bo, "b"));
+    bo.password = mqtt_acl_absent();
+    CHECK(!may_publish(store, &bo, "a"));
+}
+
 int main(void) {
     CHECK(mqtt_acl_version() == MQTT_ACL_VERSION);
     unpacks();
@@ -370,6 +409,7 @@ int main(void) {
     absent();
     clients();
     earlier();
+    life();
     printf("mqtt_acl.h " MQTT_ACL_VERSION_TEXT ": %lu checks hold\n", checks);
     return 0;
 }

@@ -275,6 +275,22 @@ uint64_t mqtt_acl_answer_line(uint64_t answer);
 uint8_t mqtt_acl_open_refusal(uint32_t answer);
 uint32_t mqtt_acl_open_line(uint32_t answer);
 
+/* The words of a refusal number, as the Rust crate has them. */
+static inline const char *mqtt_acl_refusal_words(uint8_t number) {
+    static const char *const words[11] = {"done",
+                                          "a text is too long",
+                                          "a number is out of range",
+                                          "the store is not as laid out",
+                                          "a count or the store's length is out of range",
+                                          "not the JSON of a rule line",
+                                          "not a rule",
+                                          "a filled text is too long",
+                                          "no room for the filter rows",
+                                          "no room for the eq rows",
+                                          "no room for the note rows"};
+    return number <= 10 ? words[number] : "a number that this header does not know";
+}
+
 /* The word that the programs `decide` and `client` write for a question's answer. */
 static inline const char *mqtt_acl_answer_word(uint64_t answer) {
     static const char *const words[16] = {"error", "kept", "allow", "super", "allow", "allow", "allow", "allow", "refuse",
