@@ -113,8 +113,8 @@ impl Page {
         if options.only.is_some() || options.length != LENGTH {
             return Err("--write goes with neither --only nor --length".into());
         }
-        if ["ACL_LIB", "DECIDE"].iter().any(|name| std::env::var_os(name).is_some()) {
-            return Err("--write goes with neither ACL_LIB nor DECIDE".into());
+        if ["ACL_LIB", "MQTT_ACL_LIB", "DECIDE"].iter().any(|name| std::env::var_os(name).is_some()) {
+            return Err("--write goes with no other library or program".into());
         }
         assert!(rows().eq(Tally::rows()), "the page has not each row once");
         let compared = std::env::var("COMPARED").map_err(|_| "--write is for oracle/run")?;
@@ -197,6 +197,26 @@ mod tests {
     #[test]
     fn each_row_once() {
         assert!(rows().eq(Tally::rows()));
+    }
+
+    /// Files that aren't committed are told; so are differences.
+    #[test]
+    fn told() {
+        let options = Options { seconds: 2_000, seed: 5, length: LENGTH, only: None, write: true };
+        let page = |state: &str| {
+            let compared = format!("crates c0\noracle 04\n{state}\nkit k 1");
+            Page { compared, begin: Instant::now() }.text(&options, &Tally::default()).unwrap()
+        };
+        assert!(page("committed").contains("| work tree | as committed |\n| kit | k 1 |"));
+        assert!(page("changed").contains(
+            "| crates/, git tree | `c0` |\n| oracle/, git tree | `04` |\n| work tree | had changes"
+        ));
+        let mut tally = Tally::default();
+        tally.count(oracle::cases::Kind::V, "a", "", true, false);
+        tally.count_document(b"0\n", oracle::json::Judged::LineFeed, true);
+        let line = |n: usize| table_line(&LINES[n], &tally);
+        assert_eq!(line(0), "| V | yes; no | 1; 0 | 1 |\n");
+        assert_eq!(line(5), "| J, meant: an LF inside the line | yes | 1 | 1 not as meant |\n");
     }
 
     /// The standing text has no count of a run.
