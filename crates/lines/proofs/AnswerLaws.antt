@@ -12,6 +12,7 @@ use Rattle.text.specs.Ascii.{ascii}
 use Rattle.text.specs.Text.{same}
 use Rattle.json.specs.Json.{Json, null, bool, number, text, array, object, Elements, Read, readAs, skipBlanks, isAt, valueAt, arrayAt, lineValue}
 use Rattle.json.specs.Access.{isDocument, valueHere, firstItem, bracketed, count}
+use Rattle.json.specs.declared.Place.{Place}
 use Rattle.json.specs.declared.Place.the-variants.{Nowhere}
 use Rattle.json.proofs.AccessSteps.{opens-here, first-by}
 use Rattle.json.proofs.AccessLaws.{line-is}
@@ -20,12 +21,13 @@ use Rattle.rule.specs.Rule.{nth}
 use Rattle.questions.specs.Question.{Question}
 use Rattle.lines.specs.Call.{Call, asks, asString, isGiven, askerIn, having, connectIn, subscribeIn, publishIn, connectedIn, disconnectedIn, endedIn, callBy, callIn, callFrom, callOf}
 use Rattle.lines.specs.Said.{malformed, callSaid, callDone, lineSaid, lineDone}
-use Rattle.lines.specs.Reading.{fieldsHere, wordFrom, formHere}
-use Rattle.lines.specs.declared.Fields.{Fields}
+use Rattle.reader.specs.Reader.{offsetOf, placeAt, firstOffset, offsetAfter, elementAfter, fieldsHere}
+use Rattle.lines.specs.Reading.{wordFrom, formHere}
+use Rattle.reader.specs.declared.Fields.{Fields}
 use Rattle.lines.specs.declared.Form.{Form}
 use Rattle.lines.specs.declared.Form.the-variants.{Connect, Subscribe, Publish, Connected, Disconnected, Ended, Unknown}
 use Rattle.lines.specs.declared.Said.{Said}
-use Rattle.lines.proofs.ElementLaws.{element-stands, fields-are, isText, word-element}
+use Rattle.lines.proofs.ElementLaws.{end-place, element-stands, fields-are, isText, word-element}
 
 -- ---- the form, by the word
 
@@ -92,8 +94,10 @@ array-opens line at {r} e o = by (arrayAt (valueAt 7 line) line at) (sym (opens-
     by (some x) q = let k : record { value = array (x .value); next = x .next } ≡ r = cc in (x .value, sym (ap (λ (r : Read Json). r .value) k))
 
 no-word : (line : List ℕ) {v : Json} → lineValue line ≡ some v → ((es : Elements) → v ≡ array es → ⊥) → formHere line (fieldsHere line .first) ≡ Unknown
-unfolding fieldsHere
-no-word line e h = ap (formHere line) (by (isAt line (skipBlanks line 0) 0x5b) refl) ∙ unfold formHere wordFrom in refl
+unfolding fieldsHere elementAfter offsetAfter firstOffset
+no-word line e h =
+    ap (formHere line) (ap (λ (p : Place). placeAt line (offsetOf line p)) (by (isAt line (skipBlanks line 0) 0x5b) refl) ∙ end-place line)
+    ∙ unfold formHere wordFrom in refl
   where
     by : (b : Bool) → isAt line (skipBlanks line 0) 0x5b ≡ b → firstItem 0x5b 0x5d line (skipBlanks line 0) ≡ Nowhere
     by true o = let is = array-opens line (skipBlanks line 0) (line-is line e .1) o in absurd (h (is .0) (is .1))

@@ -25,7 +25,7 @@ use Rattle.rule.proofs.DecodeLaws.{decoded-length}
 use Rattle.questions.specs.Parts.{protocolOf}
 use Rattle.lines.specs.Call as call
 use Rattle.lines.specs.Call.{asks, asString, orNull, orZero, askerIn}
-use Rattle.lines.specs.declared.Fields.{Fields}
+use Rattle.reader.specs.declared.Fields.{Fields}
 use Rattle.lines.specs.declared.GivenRead.{GivenRead}
 use Rattle.lines.specs.declared.GivenRead.the-variants.{Is as GivenIs, Bad as BadGiven}
 use Rattle.lines.specs.declared.ProtocolRead.{ProtocolRead}
@@ -33,7 +33,8 @@ use Rattle.lines.specs.declared.ProtocolRead.the-variants.{Is as ReadPro
 use Rattle.lines.specs.declared.Asker.{Asker}
 use Rattle.lines.specs.declared.AskerRead.{AskerRead}
 use Rattle.lines.specs.declared.AskerRead.the-variants.{Asker as AskerIs, Bad as BadAsker}
-use Rattle.lines.specs.Reading.{fieldsHere, stringFrom, earlierFrom, givenFrom, protocolFrom, withProtocol, withTexts, withId, askerHere}
+use Rattle.reader.specs.Reader.{fieldsHere}
+use Rattle.lines.specs.Reading.{stringFrom, earlierFrom, givenFrom, protocolFrom, withProtocol, withTexts, withId, askerHere}
 use Rattle.lines.proofs.ElementLaws.{no-length, from-front, element-stands, fields-are, text-told, text-bad, given-told, given-bad, earlier-told, earlier-bad, protocol-told, protocol-bad}
 
 -- ---- what was read, put together

@@ -6,15 +6,14 @@ use mathlib.Core.Bool.{Bool, true, false, _&&_, not, cond, true≢false}
 use mathlib.Core.List.{List, [], _∷_}
 use mathlib.Core.Option.{Option, none, some, bind, Option·map}
 use lib.Dec.{ltb, eqb}
-use lib.ListN.{length, take, drop, getD}
-use lib.Seq.{getD-drop}
+use lib.ListN.{length, take}
 use types.Run.{OneOf, miss}
 use denote.Enum.Declared.{tagOf}
 use borrow.Author.Tests.{lt-ltb, le-ltb, ltb-false, eqb-true}
 use Rattle.text.specs.Ascii.{ascii}
 use Rattle.text.specs.Text.{same}
 use Rattle.text.proofs.Laws.{and-split, same-true, isnt}
-use Rattle.json.specs.Utf8.{noByte, byteAt, between}
+use Rattle.json.specs.Utf8.{byteAt, between}
 use Rattle.json.specs.Json.{Json, null, bool, number, text, array, object, Elements, skipBlanks, isAt, kindOf, lineValue, depthLimit}
 use Rattle.json.specs.Access.{copied, decodedInto, isDocument, kindAt, truthOf}
 use Rattle.json.specs.declared.Kind.the-variants.{Array}
@@ -40,8 +39,9 @@ use Rattle.authinfo.specs.Decision.{Client, Question, subscribe, publish, Reply
 use Rattle.lines.specs.Call.{asString, orNull, having}
 use Rattle.lines.specs.Client.{elementsOf, arrayOf, clientIn, subscribeIn, publishIn, questionBy, questionIn, replySaid, questionSaid, askedBy, clientSaid}
 use Rattle.lines.specs.Said.{refusedAt}
-use Rattle.lines.specs.Reading.{fieldsHere, stringFrom, givenFrom, formHere, isArrayLine, nothingAt, withName, withTruth, headerHere}
-use Rattle.lines.specs.declared.Fields.{Fields}
+use Rattle.reader.specs.Reader.{fieldsHere}
+use Rattle.lines.specs.Reading.{stringFrom, givenFrom, formHere, isArrayLine, nothingAt, withName, withTruth, headerHere}
+use Rattle.reader.specs.declared.Fields.{Fields}
 use Rattle.lines.specs.declared.Form.{Form}
 use Rattle.lines.specs.declared.Form.the-variants.{Connect, Subscribe, Publish, Connected, Disconnected, Ended, Unknown}
 use Rattle.lines.specs.declared.GivenRead.{GivenRead}
@@ -383,26 +383,25 @@ pub no-document : (line : List ℕ) → length line ≤ lineLimit → isDocument
 unfolding isArrayLine
 no-document line h d = rw (le-ltb lineLimit (length line) h, d)
 
--- the byte that what stands from a place on begins with
-front-byte : (line : List ℕ) (at : ℕ) → byteAt (drop at line) 0 ≡ byteAt line at
-front-byte line at = getD-drop at line 0 noByte ∙ ap (λ (k : ℕ). getD line k noByte) (omega arith)
-
 -- a document, by the kind of the value that it begins with
-module _ (line : List ℕ) {first : ℕ} (short : length line ≤ lineLimit) (is : isDocument (lineValue line) ≡ true) (at : first ≡ skipBlanks line 0) where
+module _ (line : List ℕ) (short : length line ≤ lineLimit) (is : isDocument (lineValue line) ≡ true) where
+  abbrev first : ℕ
+  first = skipBlanks line 0
+
   document : {r : Bool} → r ≡ isAt line first 0x5b → r ≡ isArrayLine line
   unfolding isArrayLine
-  document q = rw (le-ltb lineLimit (length line) short, is) (q ∙ ap (λ (p : ℕ). isAt line p 0x5b) at)
+  document q = rw (le-ltb lineLimit (length line) short, is) q
 
-  pub array-first : kindAt (drop first line) 0 ≡ Array → true ≡ isArrayLine line
+  pub array-first : kindAt line first ≡ Array → true ≡ isArrayLine line
   unfolding kindAt
-  array-first k = document (sym (kind-opens false line first (ap kindOf (sym (front-byte line first)) ∙ k)))
+  array-first k = document (sym (kind-opens false line first k))
 
-  pub other-first : (kindAt (drop first line) 0 ≡ Array → ⊥) → false ≡ isArrayLine line
+  pub other-first : (kindAt line first ≡ Array → ⊥) → false ≡ isArrayLine line
   unfolding isAt kindAt
   other-first k = document (sym (isnt (eqb (byteAt line first) 0x5b) never))
     where
       never : eqb (byteAt line first) 0x5b ≡ true → ⊥
-      never e = k (ap kindOf (front-byte line first ∙ eqb-true (byteAt line first) 0x5b e) ∙ unfold kindOf between in refl)
+      never e = k (ap kindOf (eqb-true (byteAt line first) 0x5b e) ∙ unfold kindOf between in refl)
 
 pub record ArrayLine (line : List ℕ) : Type 0 where
   pub elements : Elements

@@ -9,11 +9,11 @@ use lib.Dec.{eqb, leb}
 use lib.ListN.{length, take, replicate, length-replicate}
 use types.Run.{OneOf, miss}
 use denote.Enum.Declared.{tagOf}
-use borrow.Author.Tests.{le-leb, eq-eqb, ne-eqb}
+use borrow.Author.Tests.{lt-ltb, le-ltb, le-leb, eq-eqb, ne-eqb}
 use Rattle.text.specs.Text.{same, written}
 use Rattle.json.specs.Strings.{Decoded, stringAt}
-use Rattle.json.specs.Json.{Json, null, bool, number, text, array, object, Elements, no-element, element, skipBlanks, lineValue}
-use Rattle.json.specs.Access.{firstItem, stringIs, count, copied, decodedInto}
+use Rattle.json.specs.Json.{Json, null, bool, number, text, array, object, Elements, no-element, element, skipBlanks, depthLimit, lineValue}
+use Rattle.json.specs.Access.{afterComma, nextItem, stringIs, count, copied, decodedInto}
 use Rattle.json.specs.declared.Place.{Place}
 use Rattle.json.specs.declared.Place.the-variants.{At, Nowhere}
 use Rattle.json.specs.declared.Found.{Found}
@@ -21,10 +21,11 @@ use Rattle.json.specs.declared.Found.the-variants.{Is, Absent}
 use Rattle.json.specs.declared.Copied.{Copied}
 use Rattle.json.specs.declared.Copied.the-variants.{Length, TooLong, NoText}
 use Rattle.json.proofs.Copied as copy
+use Rattle.json.proofs.ValueLaws.{value-next, value-past}
 use Rattle.json.proofs.AccessLaws.{ElementsIn, elementPlace, array-is, line-is}
 use Rattle.rule.specs.Limits.{lineLimit}
 use Rattle.rule.specs.Rule.{Value, nth, asText, asNumber}
-use Rattle.rule.specs.Places.{given, placeOf, nextPart, foundNumber}
+use Rattle.rule.specs.Places.{given, placeOf, foundNumber}
 use Rattle.rule.specs.Members.{numberFrom}
 use Rattle.rule.specs.declared.Given.{Given}
 use Rattle.rule.specs.declared.Given.the-variants.{Absent as NotGiven, Length as GivenTo}
@@ -35,7 +36,8 @@ use Rattle.rule.proofs.StandsLaws.{ValueStands, ElementsStand, nth-stands}
 use Rattle.text.proofs.Laws.{written-take}
 use Rattle.questions.specs.Parts.{protocolOf}
 use Rattle.lines.specs.Call.{asString, isNull, orNull, orZero, asProtocol, having}
-use Rattle.lines.specs.Reading.{fieldsHere, stringFrom, wordFrom, nullFrom, givenBy, givenFrom, earlierFrom, protocolBy, protocolFrom}
+use Rattle.reader.specs.Reader.{offsetOf, placeAt, firstOffset, nextOffset, offsetAfter, elementAfter, fieldsHere}
+use Rattle.lines.specs.Reading.{stringFrom, wordFrom, nullFrom, givenBy, givenFrom, earlierFrom, protocolBy, protocolFrom}
 use Rattle.lines.specs.declared.GivenRead.{GivenRead}
 use Rattle.lines.specs.declared.GivenRead.the-variants.{Is as GivenIs, Bad as BadGiven}
 use Rattle.lines.specs.declared.ProtocolRead.{ProtocolRead}
@@ -50,11 +52,29 @@ unfolding elementPlace placeOf nth
 first-place no-element = refl
 first-place (element at value rest) = refl
 
-next-place : (line : List ℕ) (n : ℕ) (es : Elements) (low high : ℕ) → ElementsIn line low high es → nextPart line (placeOf (nth n es)) ≡ placeOf (nth (suc n) es)
-unfolding nextPart placeOf nth
-next-place line n no-element low high h = refl
+-- at the line's end nothing comes next
+end-next : (line : List ℕ) → nextItem line (length line) ≡ Nowhere
+unfolding nextItem afterComma
+end-next line = ap (afterComma line) (value-past depthLimit line (length line) (omega arith))
+
+next-place : (line : List ℕ) (n : ℕ) (es : Elements) (low high : ℕ) → ElementsIn line low high es
+    → nextItem line (offsetOf line (placeOf (nth n es))) ≡ placeOf (nth (suc n) es)
+unfolding offsetOf placeOf nth
+next-place line n no-element low high h = end-next line
 next-place line zero (element at value rest) low high h = h .2 .onward ∙ first-place rest
 next-place line (suc n) (element at value rest) low high h = next-place line n rest (h .0) high (h .3)
+
+-- a reader that is at the line's end is nowhere; one that is at a value is at its place, since a value has a byte
+pub end-place : (line : List ℕ) → placeAt line (offsetOf line Nowhere) ≡ Nowhere
+unfolding placeAt offsetOf
+end-place line = ap (λ (b : Bool). cond b (At (length line)) Nowhere) (le-ltb (length line) (length line) (omega arith))
+
+value-place : (line : List ℕ) (o : Option Value) → Listed (ValueStands line) o → placeAt line (offsetOf line (placeOf o)) ≡ placeOf o
+unfolding placeOf
+value-place line o unlisted = end-place line
+value-place line o (listed v s) =
+    unfold placeAt offsetOf in
+    ap (λ (b : Bool). cond b (At (v .at)) Nowhere) (lt-ltb (v .at) (length line) (let h = value-next depthLimit line (v .at) (s .reads) in omega arith))
 
 module _ (line : List ℕ) (es : Elements) (e : lineValue line ≡ some (array es)) where
   pub line-stands : ElementsStand line es
@@ -65,6 +85,16 @@ module _ (line : List ℕ) (es : Elements) (e : lineValue line ≡ some (array e
   -- each element stands at its place
   pub element-stands : (n : ℕ) → Listed (ValueStands line) (nth n es)
   element-stands n = let s = line-stands in nth-stands line n es (s .low) (s .high) (s .elements)
+
+  -- a reader that moved n times is at element n, or at the line's end
+  offset-is : (n : ℕ) → offsetAfter line n ≡ offsetOf line (placeOf (nth n es))
+  unfolding offsetAfter firstOffset nextOffset
+  offset-is zero = let h = line-is line e in ap (offsetOf line) (array-is line (skipBlanks line 0) (h .1) refl .first ∙ first-place es)
+  offset-is (suc n) = let s = line-stands in ap (nextOffset line) (offset-is n) ∙ ap (offsetOf line) (next-place line n es (s .low) (s .high) (s .elements))
+
+  element-is : (n : ℕ) → elementAfter line n ≡ placeOf (nth n es)
+  unfolding elementAfter
+  element-is n = ap (placeAt line) (offset-is n) ∙ value-place line (nth n es) (element-stands n)
 
   pub fields-are :
       fieldsHere line
@@ -83,49 +113,16 @@ module _ (line : List ℕ) (es : Elements) (e : lineValue line ≡ some (array e
   fields-are =
       λ i.
       record {
-        first = at0 i;
-        second = at1 i;
-        third = at2 i;
-        fourth = at3 i;
-        fifth = at4 i;
-        sixth = at5 i;
-        seventh = at6 i;
-        eighth = at7 i;
-        ninth = at8 i;
+        first = element-is 0 i;
+        second = element-is 1 i;
+        third = element-is 2 i;
+        fourth = element-is 3 i;
+        fifth = element-is 4 i;
+        sixth = element-is 5 i;
+        seventh = element-is 6 i;
+        eighth = element-is 7 i;
+        ninth = element-is 8 i;
       }
-    where
-      first : Place
-      first = firstItem 0x5b 0x5d line (skipBlanks line 0)
-
-      at0 : first ≡ placeOf (nth 0 es)
-      at0 = let h = line-is line e in array-is line (skipBlanks line 0) (h .1) refl .first ∙ first-place es
-
-      next : (n : ℕ) {p : Place} → p ≡ placeOf (nth n es) → nextPart line p ≡ placeOf (nth (suc n) es)
-      next n q = let s = line-stands in ap (nextPart line) q ∙ next-place line n es (s .low) (s .high) (s .elements)
-
-      at1 : nextPart line first ≡ placeOf (nth 1 es)
-      at1 = next 0 at0
-
-      at2 : nextPart line (nextPart line first) ≡ placeOf (nth 2 es)
-      at2 = next 1 at1
-
-      at3 : nextPart line (nextPart line (nextPart line first)) ≡ placeOf (nth 3 es)
-      at3 = next 2 at2
-
-      at4 : nextPart line (nextPart line (nextPart line (nextPart line first))) ≡ placeOf (nth 4 es)
-      at4 = next 3 at3
-
-      at5 : nextPart line (nextPart line (nextPart line (nextPart line (nextPart line first)))) ≡ placeOf (nth 5 es)
-      at5 = next 4 at4
-
-      at6 : nextPart line (nextPart line (nextPart line (nextPart line (nextPart line (nextPart line first))))) ≡ placeOf (nth 6 es)
-      at6 = next 5 at5
-
-      at7 : nextPart line (nextPart line (nextPart line (nextPart line (nextPart line (nextPart line (nextPart line first)))))) ≡ placeOf (nth 7 es)
-      at7 = next 6 at6
-
-      at8 : nextPart line (nextPart line (nextPart line (nextPart line (nextPart line (nextPart line (nextPart line (nextPart line first))))))) ≡ placeOf (nth 8 es)
-      at8 = next 7 at7
 
 -- ---- how many elements there are
 

@@ -19,9 +19,10 @@ use Rattle.events.specs.Event as event
 use Rattle.events.specs.Event.{Event, cause, after}
 use Rattle.lines.specs.Call.{Call, happens, asString, orNull, having, connectedIn, disconnectedIn, endedIn}
 use Rattle.lines.specs.Said.{malformed, causeSaid, callSaid, callDone}
-use Rattle.lines.specs.Reading.{fieldsHere, stringFrom, givenFrom}
+use Rattle.reader.specs.Reader.{fieldsHere}
+use Rattle.lines.specs.Reading.{stringFrom, givenFrom}
 use Rattle.lines.specs.declared.GivenRead.the-variants.{Is as GivenIs, Bad as BadGiven}
-use Rattle.lines.specs.declared.Fields.{Fields}
+use Rattle.reader.specs.declared.Fields.{Fields}
 use Rattle.lines.specs.declared.Said.{Said}
 use Rattle.lines.proofs.ElementLaws.{from-front, element-stands, fields-are, having-more, having-read, having-none, number-told, number-bad, text-told, text-bad, given-told, given-bad}
 

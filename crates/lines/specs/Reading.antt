@@ -8,7 +8,7 @@ use lib.ListN.{length}
 use Rattle.text.specs.Ascii.{ascii}
 use Rattle.json.specs.Strings.{Decoded, stringAt}
 use Rattle.json.specs.Json.{isAt, skipBlanks, wordAt, lineValue}
-use Rattle.json.specs.Access.{firstItem, stringIs, literalOf, copied, decodedInto, isDocument}
+use Rattle.json.specs.Access.{stringIs, literalOf, copied, decodedInto, isDocument}
 use Rattle.json.specs.declared.Literal.{Literal}
 use Rattle.json.specs.declared.Literal.the-variants.{Null, True, False, Bad}
 use Rattle.json.specs.declared.Place.{Place}
@@ -19,14 +19,13 @@ use Rattle.json.specs.declared.Truth.{Truth}
 use Rattle.json.specs.declared.Truth.the-variants.{Holds, Unknown}
 use Rattle.json.specs.declared.Copied.{Copied}
 use Rattle.json.specs.declared.Copied.the-variants.{Length, TooLong, NoText}
-use Rattle.rule.specs.Places.{nextPart}
 use Rattle.rule.specs.Limits.{lineLimit}
 use Rattle.rule.specs.Members.{numberFrom, truthFrom}
 use Rattle.rule.specs.declared.Given.{Given}
 use Rattle.rule.specs.declared.Given.the-variants.{Absent as NotGiven, Length as GivenTo}
 use Rattle.rule.specs.declared.Protocol.{Protocol}
 use Rattle.rule.specs.declared.Protocol.the-variants.{Any, Is as ProtocolIs}
-use Rattle.lines.specs.declared.Fields.{Fields}
+use Rattle.reader.specs.declared.Fields.{Fields}
 use Rattle.lines.specs.declared.Form.{Form}
 use Rattle.lines.specs.declared.Form.the-variants.{Connect, Subscribe, Publish, Connected, Disconnected, Ended, Unknown}
 use Rattle.lines.specs.declared.GivenRead.{GivenRead}
@@ -38,19 +37,6 @@ use Rattle.lines.specs.declared.HeaderRead.{HeaderRead}
 use Rattle.lines.specs.declared.HeaderRead.the-variants.{Client as ClientIs, Bad as BadHeader}
 use Rattle.lines.specs.declared.AskerRead.{AskerRead}
 use Rattle.lines.specs.declared.AskerRead.the-variants.{Asker as AskerIs, Bad as BadAsker}
-
--- the first nine elements of the line's array
-unfoldable pub fieldsHere : List ℕ → Fields
-fieldsHere line =
-    let a = firstItem 0x5b 0x5d line (skipBlanks line 0) in
-    let b = nextPart line a in
-    let c = nextPart line b in
-    let d = nextPart line c in
-    let e = nextPart line d in
-    let f = nextPart line e in
-    let g = nextPart line f in
-    let h = nextPart line g in
-    record { first = a; second = b; third = c; fourth = d; fifth = e; sixth = f; seventh = g; eighth = h; ninth = nextPart line h }
 
 -- the string at a place, if there is one
 unfoldable pub stringFrom : List ℕ → Place → Option Decoded

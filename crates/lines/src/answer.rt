@@ -4,13 +4,13 @@ use crate::Said;
 use crate::asking::ask_connect;
 use crate::asking::ask_publish;
 use crate::asking::ask_subscribe;
-use crate::elements::fields;
 use crate::elements::form;
 use crate::happening::on_connected;
 use crate::happening::on_disconnected;
 use crate::happening::on_ended;
 use crate::output::malformed;
 use json::values::is_document;
+use reader::read_fields;
 use rule::LINE;
 ghost use mathlib.Core.Path.{_≡_};
 ghost use Rattle.lines.specs.Said as said;
@@ -26,7 +26,7 @@ pub fn answer(store: &mut [u8], line: &[u8]) -> Said
     if !is_document(line) {
         return malformed();
     }
-    let f = fields(line);
+    let f = read_fields(line);
     let word = f.first;
     match form(line, word) {
         Form::Connect => ask_connect(store, line, f),

@@ -1,7 +1,6 @@
 // The three questions of a line.
 use crate::Asker;
 use crate::AskerRead;
-use crate::Fields;
 use crate::GivenRead;
 use crate::ProtocolRead;
 use crate::Said;
@@ -22,6 +21,7 @@ use questions::SubscribeAnswer;
 use questions::ask::connect;
 use questions::ask::publish;
 use questions::ask::subscribe;
+use reader::Fields;
 use rule::LINE;
 use rule::Protocol;
 ghost use mathlib.Core.Path.{_≡_};
@@ -31,6 +31,7 @@ ghost use Prim.Native.Nat.{_≤_};
 ghost use lib.ListN.{length};
 ghost use Rattle.json.specs.Json.{array, Elements, lineValue};
 ghost use Rattle.json.specs.Access.{decodedInto};
+ghost use Rattle.reader.specs.Reader.{fieldsHere};
 ghost use Rattle.rule.specs.Limits.{lineLimit};
 ghost use Rattle.rule.specs.Identity.{Client};
 ghost use Rattle.rule.specs.Places.{given};
@@ -157,7 +158,7 @@ fn asker_at(
 // A connect line.
 pub(crate) fn ask_connect(store: &[u8], line: &[u8], f: Fields) -> Said
     requires { ⌜ length (now line) ≤ lineLimit ⌝ }
-    ensures { λ r. ⌜ ((es : Elements) → lineValue (now (line .entry)) ≡ some (array es) → f ≡ spec.fieldsHere (now (line .entry)) → r ≡ said.callSaid (call.connectIn es) (now (store .entry))) ⌝ }
+    ensures { λ r. ⌜ ((es : Elements) → lineValue (now (line .entry)) ≡ some (array es) → f ≡ fieldsHere (now (line .entry)) → r ≡ said.callSaid (call.connectIn es) (now (store .entry))) ⌝ }
 {
     let behind = f.eighth;
     let Place::Nowhere = behind else {
@@ -251,7 +252,7 @@ fn topic_said(
 // A line that asks on a topic, publish or subscribe.
 fn ask_topic(store: &[u8], publishing: bool, line: &[u8], f: Fields) -> Said
     requires { ⌜ length (now line) ≤ lineLimit ⌝ }
-    ensures { λ r. ⌜ ((es : Elements) → lineValue (now (line .entry)) ≡ some (array es) → f ≡ spec.fieldsHere (now (line .entry)) → r ≡ said.callSaid (cond publishing (call.publishIn es) (call.subscribeIn es)) (now (store .entry))) ⌝ }
+    ensures { λ r. ⌜ ((es : Elements) → lineValue (now (line .entry)) ≡ some (array es) → f ≡ fieldsHere (now (line .entry)) → r ≡ said.callSaid (cond publishing (call.publishIn es) (call.subscribeIn es)) (now (store .entry))) ⌝ }
 {
     let behind = f.ninth;
     let Place::Nowhere = behind else {
@@ -292,7 +293,7 @@ fn ask_topic(store: &[u8], publishing: bool, line: &[u8], f: Fields) -> Said
 // A subscribe line.
 pub(crate) fn ask_subscribe(store: &[u8], line: &[u8], f: Fields) -> Said
     requires { ⌜ length (now line) ≤ lineLimit ⌝ }
-    ensures { λ r. ⌜ ((es : Elements) → lineValue (now (line .entry)) ≡ some (array es) → f ≡ spec.fieldsHere (now (line .entry)) → r ≡ said.callSaid (call.subscribeIn es) (now (store .entry))) ⌝ }
+    ensures { λ r. ⌜ ((es : Elements) → lineValue (now (line .entry)) ≡ some (array es) → f ≡ fieldsHere (now (line .entry)) → r ≡ said.callSaid (call.subscribeIn es) (now (store .entry))) ⌝ }
 {
     ask_topic(store, false, line, f)
 }
@@ -300,7 +301,7 @@ pub(crate) fn ask_subscribe(store: &[u8], line: &[u8], f: Fields) -> Said
 // A publish line.
 pub(crate) fn ask_publish(store: &[u8], line: &[u8], f: Fields) -> Said
     requires { ⌜ length (now line) ≤ lineLimit ⌝ }
-    ensures { λ r. ⌜ ((es : Elements) → lineValue (now (line .entry)) ≡ some (array es) → f ≡ spec.fieldsHere (now (line .entry)) → r ≡ said.callSaid (call.publishIn es) (now (store .entry))) ⌝ }
+    ensures { λ r. ⌜ ((es : Elements) → lineValue (now (line .entry)) ≡ some (array es) → f ≡ fieldsHere (now (line .entry)) → r ≡ said.callSaid (call.publishIn es) (now (store .entry))) ⌝ }
 {
     ask_topic(store, true, line, f)
 }

@@ -1,11 +1,9 @@
 // A question line of the program `client`, behind its first line and the client's rules.
-use crate::Fields;
 use crate::Form;
 use crate::GivenRead;
 use crate::HeaderRead;
 use crate::Said;
 use crate::Word;
-use crate::elements::fields;
 use crate::elements::form;
 use crate::elements::given_at;
 use crate::elements::text_at;
@@ -21,8 +19,9 @@ use json::Kind;
 use json::Place;
 use json::Truth;
 use json::values::is_document;
-use json::values::skip_blanks;
+use reader::Fields;
 use reader::first_kind;
+use reader::read_fields;
 use rule::Given;
 use rule::LINE;
 use rule::Refusal;
@@ -34,6 +33,7 @@ ghost use Prim.Native.Nat.{_≤_};
 ghost use lib.ListN.{length};
 ghost use Rattle.json.specs.Json.{array, Elements, lineValue};
 ghost use Rattle.json.specs.Access.{decodedInto};
+ghost use Rattle.reader.specs.Reader.{fieldsHere};
 ghost use Rattle.rule.specs.Limits.{lineLimit};
 ghost use Rattle.rule.specs.Places.{given};
 ghost use Rattle.authinfo.specs.Answers as answers;
@@ -121,7 +121,7 @@ fn ask_subscribe(
     f: Fields,
 ) -> Said
     requires { ⌜ length (now line) ≤ lineLimit ⌝ }
-    ensures { λ r. ⌜ ((es : Elements) → lineValue (now (line .entry)) ≡ some (array es) → f ≡ spec.fieldsHere (now (line .entry)) → r ≡ client.questionSaid (record { superuser = superuser; id = now (id .entry); name = given name (now (names .entry)) }) (now (rules .entry)) (client.subscribeIn es)) ⌝ }
+    ensures { λ r. ⌜ ((es : Elements) → lineValue (now (line .entry)) ≡ some (array es) → f ≡ fieldsHere (now (line .entry)) → r ≡ client.questionSaid (record { superuser = superuser; id = now (id .entry); name = given name (now (names .entry)) }) (now (rules .entry)) (client.subscribeIn es)) ⌝ }
 {
     let at_qos = f.second;
     let at_topic = f.third;
@@ -150,7 +150,7 @@ fn ask_publish(
     f: Fields,
 ) -> Said
     requires { ⌜ length (now line) ≤ lineLimit ⌝ }
-    ensures { λ r. ⌜ ((es : Elements) → lineValue (now (line .entry)) ≡ some (array es) → f ≡ spec.fieldsHere (now (line .entry)) → r ≡ client.questionSaid (record { superuser = superuser; id = now (id .entry); name = given name (now (names .entry)) }) (now (rules .entry)) (client.publishIn es)) ⌝ }
+    ensures { λ r. ⌜ ((es : Elements) → lineValue (now (line .entry)) ≡ some (array es) → f ≡ fieldsHere (now (line .entry)) → r ≡ client.questionSaid (record { superuser = superuser; id = now (id .entry); name = given name (now (names .entry)) }) (now (rules .entry)) (client.publishIn es)) ⌝ }
 {
     let at_qos = f.second;
     let at_retain = f.third;
@@ -198,7 +198,7 @@ fn answer_question(
     requires { ⌜ length (now line) ≤ lineLimit ⌝ }
     ensures { λ r. ⌜ ((es : Elements) → lineValue (now (line .entry)) ≡ some (array es) → r ≡ client.questionSaid (record { superuser = superuser; id = now (id .entry); name = given name (now (names .entry)) }) (now (rules .entry)) (client.questionIn es)) ⌝ }
 {
-    let f = fields(line);
+    let f = read_fields(line);
     let word = f.first;
     match form(line, word) {
         Form::Subscribe => ask_subscribe(superuser, id, name, names, rules, line, f),
@@ -217,8 +217,7 @@ fn is_array(line: &[u8]) -> bool
     if !is_document(line) {
         return false;
     }
-    let first = skip_blanks(line, 0);
-    match first_kind(&line[first..]) {
+    match first_kind(line) {
         Kind::Array => true,
         _ => false,
     }
@@ -236,7 +235,7 @@ pub fn client_answer(header: &[u8], rules: &[u8], line: &[u8]) -> Said
     }
     let mut ids = [0u8; LINE];
     let mut names = [0u8; LINE];
-    let f = fields(header);
+    let f = read_fields(header);
     let HeaderRead::Client(superuser, id, name) = client_at(header, f, &mut ids, &mut names) else {
         return no_question();
     };

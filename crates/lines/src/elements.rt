@@ -1,5 +1,4 @@
-// The elements of a line, and what stands at each: a word, a text, a number, or `null`.
-use crate::Fields;
+// What is at an element of a line: a word, a text, a number, or `null`. Its place is one that `reader` found.
 use crate::Form;
 use crate::GivenRead;
 use crate::ProtocolRead;
@@ -7,47 +6,18 @@ use json::Copied;
 use json::Found;
 use json::Literal;
 use json::Place;
-use json::access::first_element;
 use json::strings::decode;
 use json::strings::string_is;
 use json::values::literal_at;
-use json::values::skip_blanks;
 use rule::Given;
 use rule::Protocol;
 use rule::listed::number_at;
-use rule::read::next_part;
 ghost use mathlib.Core.Path.{_≡_};
 ghost use lib.ListN.{length};
 ghost use Rattle.json.specs.Access.{copied, decodedInto};
 ghost use Rattle.lines.specs.Reading as spec;
 
 const PROTOCOL: u64 = 255;
-
-// The first nine elements of the line's array.
-pub fn fields(line: &[u8]) -> Fields
-    ensures { λ r. ⌜ r ≡ spec.fieldsHere (now (line .entry)) ⌝ }
-{
-    let first = first_element(line, skip_blanks(line, 0));
-    let second = next_part(line, first);
-    let third = next_part(line, second);
-    let fourth = next_part(line, third);
-    let fifth = next_part(line, fourth);
-    let sixth = next_part(line, fifth);
-    let seventh = next_part(line, sixth);
-    let eighth = next_part(line, seventh);
-    let ninth = next_part(line, eighth);
-    Fields {
-        first,
-        second,
-        third,
-        fourth,
-        fifth,
-        sixth,
-        seventh,
-        eighth,
-        ninth,
-    }
-}
 
 // Is it this word that stands there?
 fn is_word(line: &[u8], at: Place, word: &[u8]) -> bool

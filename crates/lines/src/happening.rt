@@ -1,5 +1,4 @@
 // The three events of a line.
-use crate::Fields;
 use crate::GivenRead;
 use crate::Said;
 use crate::Word;
@@ -15,6 +14,7 @@ use events::leaving::ended;
 use json::Copied;
 use json::Found;
 use json::Place;
+use reader::Fields;
 use rule::LINE;
 use rule::listed::number_at;
 ghost use mathlib.Core.Path.{_≡_};
@@ -22,11 +22,11 @@ ghost use mathlib.Core.Option.{some};
 ghost use Prim.Native.Nat.{_≤_};
 ghost use lib.ListN.{length};
 ghost use Rattle.json.specs.Json.{array, Elements, lineValue};
+ghost use Rattle.reader.specs.Reader.{fieldsHere};
 ghost use Rattle.rule.specs.Limits.{lineLimit};
 ghost use Rattle.events.specs.Event as event;
 ghost use Rattle.lines.specs.Call as call;
 ghost use Rattle.lines.specs.Said as said;
-ghost use Rattle.lines.specs.Reading as spec;
 
 fn event_said(answer: EventAnswer) -> Said
     ensures { λ r. ⌜ r ≡ said.causeSaid (event.says answer) ⌝ }
@@ -40,8 +40,8 @@ fn event_said(answer: EventAnswer) -> Said
 // A connected line.
 pub(crate) fn on_connected(store: &mut [u8], line: &[u8], f: Fields) -> Said
     requires { ⌜ length (now line) ≤ lineLimit ⌝ }
-    ensures { λ r. ⌜ ((es : Elements) → lineValue (now (line .entry)) ≡ some (array es) → f ≡ spec.fieldsHere (now (line .entry)) → r ≡ said.callSaid (call.connectedIn es) (now (store .entry))) ⌝ }
-    ensures { λ r. ⌜ ((es : Elements) → lineValue (now (line .entry)) ≡ some (array es) → f ≡ spec.fieldsHere (now (line .entry)) → now (store .exit) ≡ said.callDone (call.connectedIn es) (now (store .entry))) ⌝ }
+    ensures { λ r. ⌜ ((es : Elements) → lineValue (now (line .entry)) ≡ some (array es) → f ≡ fieldsHere (now (line .entry)) → r ≡ said.callSaid (call.connectedIn es) (now (store .entry))) ⌝ }
+    ensures { λ r. ⌜ ((es : Elements) → lineValue (now (line .entry)) ≡ some (array es) → f ≡ fieldsHere (now (line .entry)) → now (store .exit) ≡ said.callDone (call.connectedIn es) (now (store .entry))) ⌝ }
 {
     let at_session = f.second;
     let at_id = f.third;
@@ -67,8 +67,8 @@ pub(crate) fn on_connected(store: &mut [u8], line: &[u8], f: Fields) -> Said
 // A disconnected line.
 pub(crate) fn on_disconnected(store: &mut [u8], line: &[u8], f: Fields) -> Said
     requires { ⌜ length (now line) ≤ lineLimit ⌝ }
-    ensures { λ r. ⌜ ((es : Elements) → lineValue (now (line .entry)) ≡ some (array es) → f ≡ spec.fieldsHere (now (line .entry)) → r ≡ said.callSaid (call.disconnectedIn es) (now (store .entry))) ⌝ }
-    ensures { λ r. ⌜ ((es : Elements) → lineValue (now (line .entry)) ≡ some (array es) → f ≡ spec.fieldsHere (now (line .entry)) → now (store .exit) ≡ said.callDone (call.disconnectedIn es) (now (store .entry))) ⌝ }
+    ensures { λ r. ⌜ ((es : Elements) → lineValue (now (line .entry)) ≡ some (array es) → f ≡ fieldsHere (now (line .entry)) → r ≡ said.callSaid (call.disconnectedIn es) (now (store .entry))) ⌝ }
+    ensures { λ r. ⌜ ((es : Elements) → lineValue (now (line .entry)) ≡ some (array es) → f ≡ fieldsHere (now (line .entry)) → now (store .exit) ≡ said.callDone (call.disconnectedIn es) (now (store .entry))) ⌝ }
 {
     let at_session = f.second;
     let at_id = f.third;
@@ -89,8 +89,8 @@ pub(crate) fn on_disconnected(store: &mut [u8], line: &[u8], f: Fields) -> Said
 // A line of a session's end.
 pub(crate) fn on_ended(store: &mut [u8], line: &[u8], f: Fields) -> Said
     requires { ⌜ length (now line) ≤ lineLimit ⌝ }
-    ensures { λ r. ⌜ ((es : Elements) → lineValue (now (line .entry)) ≡ some (array es) → f ≡ spec.fieldsHere (now (line .entry)) → r ≡ said.callSaid (call.endedIn es) (now (store .entry))) ⌝ }
-    ensures { λ r. ⌜ ((es : Elements) → lineValue (now (line .entry)) ≡ some (array es) → f ≡ spec.fieldsHere (now (line .entry)) → now (store .exit) ≡ said.callDone (call.endedIn es) (now (store .entry))) ⌝ }
+    ensures { λ r. ⌜ ((es : Elements) → lineValue (now (line .entry)) ≡ some (array es) → f ≡ fieldsHere (now (line .entry)) → r ≡ said.callSaid (call.endedIn es) (now (store .entry))) ⌝ }
+    ensures { λ r. ⌜ ((es : Elements) → lineValue (now (line .entry)) ≡ some (array es) → f ≡ fieldsHere (now (line .entry)) → now (store .exit) ≡ said.callDone (call.endedIn es) (now (store .entry))) ⌝ }
 {
     let at_session = f.second;
     let behind = f.third;

@@ -9,7 +9,6 @@ pub mod input;
 pub mod output;
 
 use json::Found;
-use json::Place;
 use rule::Given;
 use rule::Protocol;
 
@@ -36,19 +35,6 @@ pub struct Said {
 pub enum Put {
     End(usize),
     NoRoom,
-}
-
-// The elements of a line's array, by their places.
-pub struct Fields {
-    pub first: Place,
-    pub second: Place,
-    pub third: Place,
-    pub fourth: Place,
-    pub fifth: Place,
-    pub sixth: Place,
-    pub seventh: Place,
-    pub eighth: Place,
-    pub ninth: Place,
 }
 
 // The form of a line, by its word.

@@ -3,7 +3,7 @@ use mathlib.Core.Path.{refl, sym, ap, _∙_}
 use mathlib.Core.Bool.{not, Bool·not-not}
 use denote.Ref.{now}
 use Rattle.lines.specs.Reading.{formHere}
-use Rattle.lines.specs.declared.Fields.{Fields}
+use Rattle.reader.specs.declared.Fields.{Fields}
 use Rattle.lines.specs.declared.Form.the-variants.{Connect, Subscribe, Publish, Connected, Disconnected, Ended}
 use Rattle.lines.proofs.AnswerLaws.{callAs, Called, called, long-line, no-document, none-said, unknown-none, known-said, connect-done, subscribe-done, publish-done}
 use borrow.Author.Needs.{needs}
@@ -15,7 +15,7 @@ calls : (c : tie.After-form) → Called (now (c .before .before .before .before 
 calls c =
     let line = now (c .before .before .before .before .before .before .before .args .line) in
     called line (c .before .before .before .before .if1 .left) (sym (c .before .before .before .is-document .ensures) ∙ (sym (Bool·not-not _) ∙ ap not (c .before .before .if2 .left)))
-    (c .form .ensures ∙ ap (λ (f : Fields). formHere line (f .first)) (c .before .fields .ensures))
+    (c .form .ensures ∙ ap (λ (f : Fields). formHere line (f .first)) (c .before .read-fields .ensures))
 
 malformed-requires : tie.Need-malformed-requires
 malformed-requires c κs = search needs
@@ -36,8 +36,8 @@ returns-2 c =
     none-said (now (a .line)) (now (a .store)) (c .malformed2 .ensures)
     (no-document (now (a .line)) (c .before .before .before .if1 .left) (sym (c .before .before .is-document .ensures) ∙ (sym (Bool·not-not _) ∙ ap not (c .before .if2 .taken))))
 
-fields-requires : tie.Need-fields-requires
-fields-requires c κs = search needs
+read-fields-requires : tie.Need-read-fields-requires
+read-fields-requires c κs = search needs
 
 form-requires : tie.Need-form-requires
 form-requires c κs = search needs
@@ -92,7 +92,7 @@ unfolding callAs
 returns-3 c =
     let a = c .before .before .before .before .before .before .before .before .before .before .before .args in
     known-said (now (a .line)) (now (a .store)) Connect (calls (c .before .before .before .before)) (c .before .before .enum-told .given .1) refl
-    (λ es e. c .ask-connect .ensures es e (c .before .before .before .before .before .fields .ensures)) (λ es e. connect-done (now (a .store)) es)
+    (λ es e. c .ask-connect .ensures es e (c .before .before .before .before .before .read-fields .ensures)) (λ es e. connect-done (now (a .store)) es)
 
 same-length-2 : tie.Need-same-length-2
 same-length-2 c = search needs
@@ -102,7 +102,7 @@ unfolding callAs
 returns-4 c =
     let a = c .before .before .before .before .before .before .before .before .before .before .before .args in
     known-said (now (a .line)) (now (a .store)) Subscribe (calls (c .before .before .before .before)) (c .before .before .enum-told2 .given .1) refl
-    (λ es e. c .ask-subscribe .ensures es e (c .before .before .before .before .before .fields .ensures)) (λ es e. subscribe-done (now (a .store)) es)
+    (λ es e. c .ask-subscribe .ensures es e (c .before .before .before .before .before .read-fields .ensures)) (λ es e. subscribe-done (now (a .store)) es)
 
 same-length-3 : tie.Need-same-length-3
 same-length-3 c = search needs
@@ -112,7 +112,7 @@ unfolding callAs
 returns-5 c =
     let a = c .before .before .before .before .before .before .before .before .before .before .before .args in
     known-said (now (a .line)) (now (a .store)) Publish (calls (c .before .before .before .before)) (c .before .before .enum-told3 .given .1) refl
-    (λ es e. c .ask-publish .ensures es e (c .before .before .before .before .before .fields .ensures)) (λ es e. publish-done (now (a .store)) es)
+    (λ es e. c .ask-publish .ensures es e (c .before .before .before .before .before .read-fields .ensures)) (λ es e. publish-done (now (a .store)) es)
 
 same-length-4 : tie.Need-same-length-4
 same-length-4 c = search needs
@@ -122,7 +122,7 @@ unfolding callAs
 returns-6 c =
     let a = c .before .before .before .before .before .before .before .before .before .before .before .before .before .args in
     known-said (now (a .line)) (now (a .store)) Connected (calls (c .before .before .before .before .before .before)) (c .before .before .before .before .enum-told4 .given .1) refl
-    (λ es e. c .before .before .on-connected .ensures .0 es e (c .before .before .before .before .before .before .before .fields .ensures)) (λ es e. c .before .before .on-connected .ensures .1 es e (c .before .before .before .before .before .before .before .fields .ensures))
+    (λ es e. c .before .before .on-connected .ensures .0 es e (c .before .before .before .before .before .before .before .read-fields .ensures)) (λ es e. c .before .before .on-connected .ensures .1 es e (c .before .before .before .before .before .before .before .read-fields .ensures))
 
 same-length-5 : tie.Need-same-length-5
 same-length-5 c = search needs
@@ -132,7 +132,7 @@ unfolding callAs
 returns-7 c =
     let a = c .before .before .before .before .before .before .before .before .before .before .before .before .before .args in
     known-said (now (a .line)) (now (a .store)) Disconnected (calls (c .before .before .before .before .before .before)) (c .before .before .before .before .enum-told5 .given .1) refl
-    (λ es e. c .before .before .on-disconnected .ensures .0 es e (c .before .before .before .before .before .before .before .fields .ensures)) (λ es e. c .before .before .on-disconnected .ensures .1 es e (c .before .before .before .before .before .before .before .fields .ensures))
+    (λ es e. c .before .before .on-disconnected .ensures .0 es e (c .before .before .before .before .before .before .before .read-fields .ensures)) (λ es e. c .before .before .on-disconnected .ensures .1 es e (c .before .before .before .before .before .before .before .read-fields .ensures))
 
 same-length-6 : tie.Need-same-length-6
 same-length-6 c = search needs
@@ -142,7 +142,7 @@ unfolding callAs
 returns-8 c =
     let a = c .before .before .before .before .before .before .before .before .before .before .before .before .before .args in
     known-said (now (a .line)) (now (a .store)) Ended (calls (c .before .before .before .before .before .before)) (c .before .before .before .before .enum-told6 .given .1) refl
-    (λ es e. c .before .before .on-ended .ensures .0 es e (c .before .before .before .before .before .before .before .fields .ensures)) (λ es e. c .before .before .on-ended .ensures .1 es e (c .before .before .before .before .before .before .before .fields .ensures))
+    (λ es e. c .before .before .on-ended .ensures .0 es e (c .before .before .before .before .before .before .before .read-fields .ensures)) (λ es e. c .before .before .on-ended .ensures .1 es e (c .before .before .before .before .before .before .before .read-fields .ensures))
 
 returns-9 : tie.Need-returns-9
 returns-9 c =
@@ -158,7 +158,7 @@ answer-spec =
     is-document-requires
     malformed-requires-2
     returns-2
-    fields-requires
+    read-fields-requires
     form-requires
     enum-told
     ask-connect-requires

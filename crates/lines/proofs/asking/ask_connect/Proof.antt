@@ -4,7 +4,7 @@ use mathlib.Core.Option.{some}
 use denote.Ref.{now}
 use Rattle.json.specs.Json.{array, Elements, lineValue}
 use Rattle.lines.specs.Said.{replySaid}
-use Rattle.lines.specs.Reading.{fieldsHere}
+use Rattle.reader.specs.Reader.{fieldsHere}
 use Rattle.lines.proofs.ElementLaws.{zeros}
 use Rattle.lines.proofs.AskerLaws.{Asks, eighth-is, asker-told, asker-bad, id-within}
 use Rattle.lines.proofs.AskingLaws.{connect-more, connect-bad, connect-any, connect-asks}

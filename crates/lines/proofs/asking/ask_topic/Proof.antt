@@ -4,7 +4,8 @@ use mathlib.Core.Option.{some}
 use denote.Ref.{now}
 use Rattle.json.specs.Json.{array, Elements, lineValue}
 use Rattle.rule.proofs.DecodeLaws.{decoded-length}
-use Rattle.lines.specs.Reading.{fieldsHere, stringFrom}
+use Rattle.reader.specs.Reader.{fieldsHere}
+use Rattle.lines.specs.Reading.{stringFrom}
 use Rattle.lines.proofs.ElementLaws.{zeros}
 use Rattle.lines.proofs.AskerLaws.{Asks, ninth-is, asker-told, asker-bad, id-within, topic-told, topic-wrong}
 use Rattle.lines.proofs.AskingLaws.{topic-more, topic-unasked, topic-absent, topic-asks}

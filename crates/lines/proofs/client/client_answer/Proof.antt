@@ -30,8 +30,8 @@ returns-2 c =
     let a = c .before .before .before .before .before .before .before .before .args in
     no-line (now (a .header)) (now (a .rules)) (now (a .line)) (c .no-question2 .ensures) (sym (c .before .before .is-array2 .ensures) ∙ (sym (Bool·not-not _) ∙ ap not (c .before .if2 .taken)))
 
-fields-requires : tie.Need-fields-requires
-fields-requires c κs = search needs
+read-fields-requires : tie.Need-read-fields-requires
+read-fields-requires c κs = search needs
 
 slice-aggregate-client-at : tie.Need-slice-aggregate-client-at
 slice-aggregate-client-at c = search needs
@@ -56,7 +56,7 @@ returns-3 c =
     let a = c .before .before .before .before .before .before .before .before .before .before .before .before .before .before .before .before .args in
     let header = array-line (now (a .header)) (sym (c .before .before .before .before .before .before .before .before .before .before .before .before .is-array .ensures) ∙ (sym (Bool·not-not _) ∙ ap not (c .before .before .before .before .before .before .before .before .before .before .before .if1 .left))) in
     bad-header (now (a .header)) (now (a .rules)) (now (a .line)) (c .no-question3 .ensures) header
-    (header-bad (now (a .header)) (header .elements) (header .value) zeros (roomy (now (a .header)) (header .short)) (c .before .before .before .before .before .before .before .before .fields .result) (c .before .before .before .before .before .before .before .before .fields .ensures) (c .before .before .before .before .before .client-at .ensures .0) (c .before .enum-told .given .1))
+    (header-bad (now (a .header)) (header .elements) (header .value) zeros (roomy (now (a .header)) (header .short)) (c .before .before .before .before .before .before .before .before .read-fields .result) (c .before .before .before .before .before .before .before .before .read-fields .ensures) (c .before .before .before .before .before .client-at .ensures .0) (c .before .enum-told .given .1))
 
 sub-answer-question : tie.Need-sub-answer-question
 sub-answer-question c = search needs
@@ -67,7 +67,7 @@ part-answer-question-start c = search needs
 part-answer-question-end : tie.Need-part-answer-question-end
 part-answer-question-end c =
     let a = c .before .before .before .before .before .before .before .before .before .before .before .before .before .before .before .before .before .args in
-    id-within (now (a .header)) (c .before .before .before .before .before .before .before .before .before .fields .result) zeros (c .before .before .before .before .before .before .client-at .ensures .0) (c .before .before .before .before .before .before .client-at .ensures .1 .0) (c .before .before .superuser .given .1)
+    id-within (now (a .header)) (c .before .before .before .before .before .before .before .before .before .read-fields .result) zeros (c .before .before .before .before .before .before .client-at .ensures .0) (c .before .before .before .before .before .before .client-at .ensures .1 .0) (c .before .before .superuser .given .1)
 
 slice-aggregate-answer-question : tie.Need-slice-aggregate-answer-question
 slice-aggregate-answer-question c = search needs
@@ -83,7 +83,7 @@ returns-4 c =
     let header = array-line (now (a .header)) (sym (c .before .before .before .before .before .before .before .before .before .before .before .before .before .before .before .before .is-array .ensures) ∙ (sym (Bool·not-not _) ∙ ap not (c .before .before .before .before .before .before .before .before .before .before .before .before .before .before .before .if1 .left))) in
     let line = array-line (now (a .line)) (sym (c .before .before .before .before .before .before .before .before .before .before .before .before .before .before .is-array2 .ensures) ∙ (sym (Bool·not-not _) ∙ ap not (c .before .before .before .before .before .before .before .before .before .before .before .before .before .if2 .left))) in
     client-asks (now (a .header)) (now (a .rules)) (now (a .line)) header line
-    (header-told (now (a .header)) (header .elements) (header .value) zeros (roomy (now (a .header)) (header .short)) (c .before .before .before .before .before .before .before .before .before .before .before .before .fields .result) (c .before .before .before .before .before .before .before .before .before .before .before .before .fields .ensures) (c .before .before .before .before .before .before .before .before .before .client-at .ensures .0) (c .before .before .before .before .before .before .before .before .before .client-at .ensures .1 .0) (c .before .before .before .before .before .before .before .before .before .client-at .ensures .1 .1) (c .before .before .before .before .before .superuser .given .1))
+    (header-told (now (a .header)) (header .elements) (header .value) zeros (roomy (now (a .header)) (header .short)) (c .before .before .before .before .before .before .before .before .before .before .before .before .read-fields .result) (c .before .before .before .before .before .before .before .before .before .before .before .before .read-fields .ensures) (c .before .before .before .before .before .before .before .before .before .client-at .ensures .0) (c .before .before .before .before .before .before .before .before .before .client-at .ensures .1 .0) (c .before .before .before .before .before .before .before .before .before .client-at .ensures .1 .1) (c .before .before .before .before .before .superuser .given .1))
     (c .answer-question .ensures (line .elements) (line .value))
 
 pub client-answer-spec : {M : Type 1} → statement M
@@ -96,7 +96,7 @@ client-answer-spec =
     is-array-requires-2
     no-question-requires-2
     returns-2
-    fields-requires
+    read-fields-requires
     slice-aggregate-client-at
     slice-aggregate-client-at-2
     client-at-requires

@@ -2,11 +2,8 @@
 use mathlib.Core.Path.{sym, ap, _∙_}
 use mathlib.Core.Bool.{not, Bool·not-not}
 use mathlib.Core.List.{[], _∷_}
-use native.Mathlib.Omega.{arith}
 use denote.Ref.{now}
-use borrow.Rule.Slice.PartAt.{part-to-end}
 use Rattle.json.specs.declared.Kind.the-variants.{Array}
-use Rattle.json.proofs.ScanLaws.{blanks-within}
 use Rattle.rule.proofs.MemberLaws.{other-kind}
 use Rattle.lines.proofs.ClientLaws.{long-array, no-document, array-first, other-first}
 use borrow.Author.Needs.{needs}
@@ -26,22 +23,6 @@ returns-2 c =
     let a = c .before .before .before .before .args in
     no-document (now (a .line)) (c .before .before .if1 .left) (sym (c .before .is-document .ensures) ∙ (sym (Bool·not-not _) ∙ ap not (c .if2 .taken)))
 
-skip-blanks-requires : tie.Need-skip-blanks-requires
-skip-blanks-requires c κs = search needs
-
-sub-first-kind : tie.Need-sub-first-kind
-sub-first-kind c =
-    let a = c .before .before .before .before .before .args in
-    omega (arith, c .skip-blanks .ensures, blanks-within (now (a .line)) 0 (omega arith))
-
-part-first-kind-start : tie.Need-part-first-kind-start
-part-first-kind-start c =
-    let a = c .before .before .before .before .before .args in
-    omega (arith, c .skip-blanks .ensures, blanks-within (now (a .line)) 0 (omega arith))
-
-part-first-kind-end : tie.Need-part-first-kind-end
-part-first-kind-end c = search needs
-
 first-kind-requires : tie.Need-first-kind-requires
 first-kind-requires c κs = search needs
 
@@ -50,29 +31,16 @@ enum-told c = search needs
 
 returns-3 : tie.Need-returns-3
 returns-3 c =
-    let line = now (c .before .before .before .before .before .before .before .before .before .args .line) in
-    array-first line (c .before .before .before .before .before .before .before .if1 .left) (sym (c .before .before .before .before .before .before .is-document .ensures) ∙ (sym (Bool·not-not _) ∙ ap not (c .before .before .before .before .before .if2 .left))) (c .before .before .before .before .skip-blanks .ensures)
-    (sym (rw part-to-end at (c .before .before .first-kind .ensures)) ∙ c .enum-told .given .1)
+    let line = now (c .before .before .before .before .before .before .before .args .line) in
+    array-first line (c .before .before .before .before .before .if1 .left) (sym (c .before .before .before .before .is-document .ensures) ∙ (sym (Bool·not-not _) ∙ ap not (c .before .before .before .if2 .left)))
+    (sym (c .before .before .first-kind .ensures) ∙ c .enum-told .given .1)
 
 returns-4 : tie.Need-returns-4
 returns-4 c =
-    let line = now (c .before .before .before .before .before .before .before .before .args .line) in
+    let line = now (c .before .before .before .before .before .before .args .line) in
     let k = c .before .first-kind in
-    other-first line (c .before .before .before .before .before .before .if1 .left) (sym (c .before .before .before .before .before .is-document .ensures) ∙ (sym (Bool·not-not _) ∙ ap not (c .before .before .before .before .if2 .left))) (c .before .before .before .skip-blanks .ensures)
-    (λ e. other-kind (0 ∷ 1 ∷ 3 ∷ 4 ∷ 5 ∷ 6 ∷ []) (k .result) Array (c .match .keys2) tt (rw part-to-end at (k .ensures) ∙ e))
+    other-first line (c .before .before .before .before .if1 .left) (sym (c .before .before .before .is-document .ensures) ∙ (sym (Bool·not-not _) ∙ ap not (c .before .before .if2 .left)))
+    (λ e. other-kind (0 ∷ 1 ∷ 3 ∷ 4 ∷ 5 ∷ 6 ∷ []) (k .result) Array (c .match .keys2) tt (k .ensures ∙ e))
 
 pub is-array-spec : {M : Type 1} → statement M
-is-array-spec =
-    tie.close
-    (tie.spec
-    returns
-    is-document-requires
-    returns-2
-    skip-blanks-requires
-    sub-first-kind
-    part-first-kind-start
-    part-first-kind-end
-    first-kind-requires
-    enum-told
-    returns-3
-    returns-4)
+is-array-spec = tie.close (tie.spec returns is-document-requires returns-2 first-kind-requires enum-told returns-3 returns-4)
