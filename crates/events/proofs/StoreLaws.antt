@@ -204,7 +204,7 @@ caused {n} e s q = (sym q, at (view s) q)
   where
     at : (o : Option View) → cause e o ≡ some n → s ≡ stored e s o
     at none q = refl
-    at (some v) q = sym (ap (λ c. cond (is-cause c) s (layout (effect e v))) q)
+    at (some v) q = rw q
 
 pub argument-caused : {n : ℕ} (e : Event) (s : List ℕ) → first (argumentCauses e) ≡ some n → (some n ≡ cause e (view s)) × (s ≡ after e s)
 unfolding cause
@@ -354,7 +354,7 @@ module _ {session at₁ at₂ at₃ end : ℕ} {id s : List ℕ} {name : Option 
 
   refused-as : {t : List ℕ} (n : ℕ) → cause event (some v) ≡ some n → t ≡ s → (some n ≡ cause event (view s)) × (t ≡ after event s)
   unfolding after stored
-  refused-as n q e = (sym (ap (cause event) is ∙ q), e ∙ sym (ap (stored event s) is ∙ ap (λ o. cond (is-cause o) s (layout w)) q))
+  refused-as n q e = (sym (ap (cause event) is ∙ q), e ∙ rw (is, q))
 
   -- ---- the tables
 
