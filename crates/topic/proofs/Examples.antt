@@ -1,12 +1,19 @@
--- The worked examples of section 4.7 of OASIS MQTT, evaluated. Document 01's marked examples stand in crates/rule, in one list. Assumes
--- nothing.
+-- The worked examples of section 4.7 of OASIS MQTT, evaluated, and two of them as statements about `Matches` of specs/Mqtt47.antt: it
+-- has members, and not all are. Document 01's marked examples are in crates/acl, in one list. Assumes nothing.
+use Prim.Native.Nat.{ℕ, zero, suc}
 use Prim.Native.String.{String}
-use mathlib.Core.Bool.{Bool, true, false, _&&_, Bool·beq}
+use mathlib.Core.Bool.{Bool, true, false, _&&_, not, Bool·beq, true≢false, and-eq-true-iff}
 use mathlib.Core.List.{List, [], _∷_}
-use mathlib.Core.Path.{_≡_, refl}
+use mathlib.Core.Option.{Option·some-injective, Option·none-ne-some}
+use mathlib.Core.Path.{_≡_, refl, sym, _∙_}
+use lib.Dec.{eqb, leb}
+use lib.ListN.{length}
+use borrow.Author.Tests.{eq-eqb, leb-true, not-true}
 use Rattle.text.specs.Ascii.{ascii}
 use Rattle.text.specs.Text.{same}
 use Rattle.topic.specs.Topic.{extendFirst, withByte, levels, isOnly, wildcardFree, validLevels, validFilter, metadata, ends, passes, behind, takes, dollarRule, treeLevels, levelsIf, checkedLevels, treeMatch, plainMatch}
+use Rattle.topic.specs.Mqtt47.{multi, single, At, Characters, Filter, Name, Matches}
+use Rattle.topic.proofs.Oasis.{filter-47, tree-47}
 
 -- is the text a valid filter? Does the filter take the text, by T or by P? Each with the document's answer
 pub data Example : Type 0 where
@@ -49,8 +56,66 @@ mqtt-47-examples =
     T "+/monitor/Clients" "$SYS/monitor/Clients" false ∷
     T "$SYS/#" "$SYS/monitor/Clients" true ∷
     T "$SYS/monitor/+" "$SYS/monitor/Clients" true ∷
+    T "ACCOUNTS" "Accounts" false ∷
+    T "Accounts payable" "Accounts payable" true ∷
+    T "/finance" "finance" false ∷
+    T "finance" "/finance" false ∷
+    Valid "/" true ∷
+    T "/" "/" true ∷
+    P "sport/#" "sport" true ∷
+    P "+" "/finance" false ∷
     []
 
 pub mqtt-47 : all-hold mqtt-47-examples ≡ true
 unfolding same extendFirst withByte levels isOnly wildcardFree validLevels validFilter metadata ends passes behind takes dollarRule treeLevels levelsIf checkedLevels treeMatch plainMatch
 mqtt-47 = refl
+
+-- no byte of the text is this one
+abbrev lacks : ℕ → List ℕ → Bool
+lacks c [] = true
+lacks c (b ∷ text) = not (eqb b c) && lacks c text
+
+nowhere : (c : ℕ) (text : List ℕ) → lacks c text ≡ true → (i : ℕ) → At text i c → ⊥
+nowhere c [] e i a = Option·none-ne-some c a
+nowhere c (b ∷ text) e zero a =
+    let differs = not-true (eqb b c) (and-eq-true-iff _ (lacks c text) .0 e .0) in
+    true≢false (sym (eq-eqb b c (Option·some-injective b c a)) ∙ differs)
+nowhere c (b ∷ text) e (suc i) a = nowhere c text (and-eq-true-iff (not (eqb b c)) (lacks c text) .0 e .1) i a
+
+characters : (text : List ℕ) → leb 1 (length text) ≡ true → lacks 0 text ≡ true → Characters text
+characters text e n = record { some-character = leb-true 1 (length text) e; no-null = nowhere 0 text n }
+
+-- the names and the filters of the two statements
+sport : Name (ascii "sport")
+sport =
+    record {
+      characters = characters (ascii "sport") refl refl;
+      no-multi = nowhere multi (ascii "sport") refl;
+      no-single = nowhere single (ascii "sport") refl;
+    }
+
+finance : Name (ascii "/finance")
+finance =
+    record {
+      characters = characters (ascii "/finance") refl refl;
+      no-multi = nowhere multi (ascii "/finance") refl;
+      no-single = nowhere single (ascii "/finance") refl;
+    }
+
+below-sport : Filter (ascii "sport/#")
+unfolding same extendFirst withByte levels isOnly wildcardFree validLevels validFilter
+below-sport = filter-47 (ascii "sport/#") (characters (ascii "sport/#") refl refl) .0 refl
+
+any-level : Filter (ascii "+")
+unfolding same extendFirst withByte levels isOnly wildcardFree validLevels validFilter
+any-level = filter-47 (ascii "+") (characters (ascii "+") refl refl) .0 refl
+
+-- 4.7.1.2: "sport/#" also matches the singular "sport", since # includes the parent level
+pub parent-matches : Matches (ascii "sport/#") (ascii "sport")
+unfolding same extendFirst withByte levels isOnly wildcardFree validLevels validFilter metadata ends passes behind takes dollarRule treeLevels levelsIf checkedLevels treeMatch
+parent-matches = tree-47 (ascii "sport/#") (ascii "sport") below-sport sport .0 refl
+
+-- 4.7.1.3: "/finance" matches "+/+" and "/+", but not "+"
+pub two-levels-differ : Matches (ascii "+") (ascii "/finance") → ⊥
+unfolding same extendFirst withByte levels isOnly wildcardFree validLevels validFilter metadata ends passes behind takes dollarRule treeLevels levelsIf checkedLevels treeMatch
+two-levels-differ m = true≢false (sym (tree-47 (ascii "+") (ascii "/finance") any-level finance .1 m))
