@@ -3,3 +3,4 @@ pub mod RunLaws
 pub mod Positions
 pub mod Reordering
 pub mod Example
+pub mod Decide

@@ -37,7 +37,7 @@ not-given none e = refl
 not-given (some n) e = absurd (true≢false e)
 
 -- the code's store reads as the plain machine's view
-view-after : (e : Event) (s : List ℕ) → view (after e s) ≡ plainStep e (view s)
+pub view-after : (e : Event) (s : List ℕ) → view (after e s) ≡ plainStep e (view s)
 unfolding after stored plainStep
 view-after e s = at (view s) refl
   where
