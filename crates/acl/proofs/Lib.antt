@@ -4,3 +4,4 @@ pub mod Positions
 pub mod Reordering
 pub mod Example
 pub mod Decide
+pub mod Marked

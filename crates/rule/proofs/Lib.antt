@@ -10,6 +10,5 @@ pub mod FillLaws
 pub mod IdentityLaws
 pub mod StandsLaws
 pub mod FourthLaws
-pub mod Marked
 pub mod OnePassLaws
 pub mod FrontLaws

@@ -9,4 +9,3 @@ pub mod Agreement
 pub mod Members
 pub mod OnePass
 pub mod Front
-pub mod Marked

@@ -1,0 +1,105 @@
+-- Document 01, Marked examples of matching and filling: "Proved together, a single claim over one list". The list and the claim.
+use Prim.Native.Nat.{ℕ, _-_}
+use Prim.Native.String.{String}
+use mathlib.Core.Bool.{Bool, true, false, _&&_, cond, Bool·beq}
+use mathlib.Core.List.{List, [], _∷_, _++_}
+use mathlib.Core.Option.{Option, none, some}
+use mathlib.Core.Path.{_≡_}
+use lib.Dec.{eqb}
+use lib.ListN.{replicate}
+use Rattle.text.specs.Ascii.{ascii}
+use Rattle.text.specs.Text.{same}
+use Rattle.topic.specs.Topic.{treeMatch, plainMatch}
+use Rattle.rule.specs.Rule.{Rule}
+use Rattle.rule.specs.Fill.{fill}
+use Rattle.rule.specs.RuleText.{Result, refused, gives, readRule}
+use Rattle.rule.specs.Refusals.{number}
+use Rattle.store.specs.Store.{View}
+use Rattle.store.specs.Opening.{opened}
+use Rattle.store.specs.View.{openable}
+use Rattle.questions.specs.Question.{subscribe, publish, Reply, refuses, decides}
+use Rattle.questions.specs.Decision.{askView}
+use Rattle.events.specs.Event.{connected, cause}
+use Rattle.acl.specs.Decide.{counts, bo}
+
+-- T and P of a filter and a checked text; a template filled with a client id and a user name; a rule's protocol. Then lengths, each with
+-- the number of the refusal, 0 where it passes: a string of a rule; a text that connected fills; the topic of a subscribe and a publish
+pub data Example : Type 0 where
+  T : String → String → Bool → Example
+  P : String → String → Bool → Example
+  Fills : String → String → String → String → Example
+  Protocol : String → ℕ → Example
+  Decoded : ℕ → ℕ → Example
+  FilledTo : ℕ → ℕ → Example
+  Asked : ℕ → ℕ → Example
+
+abbrev pub letters : ℕ → List ℕ
+letters n = replicate n 0x61
+
+-- a rule with one topic
+abbrev pub ruleFor : List ℕ → List ℕ
+ruleFor topic = ascii "[\"allow\",\"all\",\"all\",[\"" ++ (topic ++ ascii "\"]]")
+
+-- a store as Open leaves it for these rules, with the counts of `decide`
+abbrev pub openedFor : List ℕ → Option View
+openedFor rules = cond (openable counts rules) (some (opened counts rules)) none
+
+abbrev pub protocolIs : Result Rule → ℕ → Bool
+protocolIs (refused cause) n = false
+protocolIs (gives r) n = elim (r .protocol) [ none ↦ false | some m ↦ eqb m n ]
+
+-- the number of a refusal, 0 where there is none
+abbrev pub ofRule : Result Rule → ℕ
+ofRule (refused cause) = number cause
+ofRule (gives r) = 0
+
+abbrev pub ofEvent : Option ℕ → ℕ
+ofEvent none = 0
+ofEvent (some n) = n
+
+abbrev pub ofReply : Reply → ℕ
+ofReply (refuses n place) = n
+ofReply (decides d) = 0
+
+abbrev pub holds : Example → Bool
+holds (T filter text yes-or-no) = Bool·beq (treeMatch (ascii filter) (ascii text)) yes-or-no
+holds (P filter text yes-or-no) = Bool·beq (plainMatch (ascii filter) (ascii text)) yes-or-no
+holds (Fills template id name result) = same (fill (ascii template) (ascii id) (some (ascii name))) (ascii result)
+holds (Protocol line n) = protocolIs (readRule (ascii line)) n
+holds (Decoded n refusal) = eqb (ofRule (readRule (ruleFor (letters n)))) refusal
+-- the client id has 64 bytes
+holds (FilledTo n refusal) = eqb (ofEvent (cause (connected 1 (letters 64) none) (openedFor (ruleFor (letters (n - 64) ++ ascii "%c"))))) refusal
+holds (Asked n refusal) =
+    eqb (ofReply (askView (subscribe 0 bo (letters n) 0) (openedFor []))) refusal
+    && eqb (ofReply (askView (publish 0 bo (letters n) true) (openedFor []))) refusal
+
+abbrev pub all-hold : List Example → Bool
+all-hold [] = true
+all-hold (e ∷ es) = holds e && all-hold es
+
+-- zero levels are those of a text that is no valid filter, as `a#`
+abbrev pub examples : List Example
+examples =
+    T "#" "a#" true ∷
+    T "#" "$SYS/a" false ∷
+    T "a/#" "a/$b" true ∷
+    P "a/#" "a/$b" false ∷
+    P "+" "$SYS/a/b" true ∷
+    T "+" "$SYS/a/b" false ∷
+    P "+/b" "$SYS/b" false ∷
+    T "a/+" "a/#" true ∷
+    T "a/+" "a/" true ∷
+    T "a/+" "a" false ∷
+    Fills "%c/%u" "%u" "bo" "bo/bo" ∷
+    Protocol "[\"allow\",{\"protocol\":260}]" 4 ∷
+    Decoded 256 0 ∷
+    Decoded 257 1 ∷
+    FilledTo 256 0 ∷
+    FilledTo 257 7 ∷
+    Asked 256 0 ∷
+    Asked 257 1 ∷
+    []
+
+-- all of them together
+abbrev pub Marked : Type 0
+Marked = all-hold examples ≡ true
