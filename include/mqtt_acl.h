@@ -42,15 +42,17 @@
    - A will is published after the connection is lost: ask it before disconnected is told, since its rows are gone afterwards.
    - Sessions are 0 to 255. One number can serve all clients, however many: a client enters by connected and ended, and leaves by
      connected, disconnected and ended, one client at a time. Connected then finds its rows there, adds none and makes the notes anew,
-     by which disconnected finds what to clear. This was tried with 2,000 clients; it is not proved here.
+     by which disconnected finds what to clear. Proved (LeavesAlike of crates/hosting/specs/Claims.antt): where nothing is refused and
+     the number has no note before, the filter rows that stay are those that would stay under a number of its own, and no note is left.
    - The superuser flag of an allowed connect is handed back to the caller and not looked at afterwards: subscribe and publish judge a
      superuser as anyone. (Per-client questions do look at theirs.)
    - A rule that asks for a password asks in every question: keep the password as long as the client is there, or its rule agrees at
      connect and never again. The same holds for the address and the protocol.
    - An id or a name that holds `+`, `#` or `/`, or begins with `$`, widens rules: `bench/%c/#` filled with the id `+` is `bench/+/#`.
-     Refuse such ids at CONNECT where rules have %c or %u.
-   - Each call checks the whole store, unused rows too: tables of 4,096 empty rows cost on every question. Give the tables what the
-     clients need.
+     Refuse such ids at CONNECT where rules have %c or %u. Others leave a template's levels and wildcards as they are (PlainFills).
+   - How large: each client adds at most a filter row and a note for each filter of the rules with %c or %u, and an eq row for each such
+     eq name (Enough); with one session number N holds the notes of one client. Each call checks the whole store, unused rows too: tables
+     of 4,096 empty rows cost on every question.
    - New rules without losing rows: open a second store, tell it connected for everyone present, and take it in place of the first if
      nothing was refused. examples/c/reload.c does it.
 
