@@ -11,7 +11,8 @@ use lib.ListN.{length, take, drop}
 use borrow.Author.Tests.{eqb-true, ltb-true, ltb-false, le-ltb}
 use Rattle.json.specs.Utf8.{byteAt}
 use Rattle.json.specs.Json.{Json, object, Read, isAt, skipBlanks, separatorAt, depthLimit, valueAt, lineValue, longest}
-use Rattle.json.specs.Access.{checked, valueHere, firstItem, afterComma, nextItem}
+use Rattle.json.specs.Access.{checked, valueHere, kindAt, firstItem, afterComma, nextItem}
+use Rattle.json.specs.declared.Kind.the-variants.{Text, Object}
 use Rattle.json.specs.declared.Place.{Place}
 use Rattle.json.specs.declared.Place.the-variants.{At, Nowhere}
 use Rattle.json.specs.declared.Separator.{Separator}
@@ -52,6 +53,7 @@ use Rattle.rule.specs.declared.Rest.the-variants.{Rest as RestIs, Unread
 use Rattle.rule.proofs.WordLaws.{word-here}
 use Rattle.rule.proofs.ReadLaws.{here-by}
 use Rattle.rule.proofs.RuleLaws.{read-long, read-invalid, read-valid}
+use Rattle.rule.proofs.MemberLaws.{users-other}
 use Rattle.rule.proofs.OnePassLaws.{line-rule, members-place}
 
 -- ---- the item behind a value
@@ -109,15 +111,14 @@ pub access-unopened : (line : List ℕ) {p : ℕ} → p ≡ skipBlanks line 0 �
 unfolding accessOf
 access-unopened line {p} e h = rw (sym e, h)
 
-pub access-word-at : (line : List ℕ) {p at : ℕ} {o : Place} → p ≡ skipBlanks line 0 → isAt line p 0x5b ≡ true → at ≡ skipBlanks line (p + 1) → plainText line at ≡ o
-    → accessOf line ≡ accessFrom line at o
+pub access-word-at : (line : List ℕ) {p at : ℕ} → p ≡ skipBlanks line 0 → isAt line p 0x5b ≡ true → at ≡ skipBlanks line (p + 1) → accessOf line ≡ accessFrom line at (plainText line at)
 unfolding accessOf
-access-word-at line {p} {at} e h q k = rw (sym e, h, sym q, k)
+access-word-at line {p} {at} e h q = rw (sym e, h, sym q)
 
-pub access-behind : (line : List ℕ) {p at end : ℕ} {s : Separator} → p ≡ skipBlanks line 0 → isAt line p 0x5b ≡ true → at ≡ skipBlanks line (p + 1) → plainText line at ≡ At end
-    → separatorAt 0x5d line (end + 1) ≡ s → accessOf line ≡ accessBefore s (accessOfWord (wordOf (take (end - (at + 1)) (drop (at + 1) line))))
+pub access-behind : (line : List ℕ) (at : ℕ) {end : ℕ} {s : Separator} → plainText line at ≡ At end → separatorAt 0x5d line (end + 1) ≡ s
+    → accessFrom line at (plainText line at) ≡ accessBefore s (accessOfWord (wordOf (take (end - (at + 1)) (drop (at + 1) line))))
 unfolding accessFrom wordBetween
-access-behind line {at = at} {end} e h q k f = access-word-at line e h q k ∙ ap (λ (s : Separator). accessBefore s (accessOfWord (wordBetween line at end))) f
+access-behind line at {end} k f = ap (accessFrom line at) k ∙ ap (λ (s : Separator). accessBefore s (accessOfWord (wordBetween line at end))) f
 
 -- where it is answered
 pub access-to : (line : List ℕ) {allow : Bool} {users : ℕ} → accessOf line ≡ Access allow users → AccessTo line allow users
@@ -188,6 +189,19 @@ pub users-from : (line : List ℕ) (allow : Bool) (at : ℕ) {users : Users} {en
 unfolding usersBefore
 users-from line allow at {users} {end} u =
     users-within line allow at (u .reads) (le-ltb textLimit (longest (u .value)) (u .short)) ∙ ap (usersBefore end) (u .are)
+
+-- where neither a string nor an object stands, nobody is listed
+pub users-neither : (line : List ℕ) (allow : Bool) (at : ℕ) → (kindAt line at ≡ Text → ⊥) → (kindAt line at ≡ Object → ⊥) → usersUpTo line allow at ≡ UnreadUsers
+unfolding usersUpTo usersWithin usersBefore usersOfPlace
+users-neither line allow at t o = by-value (valueAt 7 line at)
+  where
+    by-long : (next : ℕ) (b : Bool) → cond b UnreadUsers (usersBefore next (usersOfPlace line allow (At at))) ≡ UnreadUsers
+    by-long next true = refl
+    by-long next false = ap (usersBefore next) (users-other allow line at t o)
+
+    by-value : (v : Option (Read Json)) → usersWithin line allow at v ≡ UnreadUsers
+    by-value none = refl
+    by-value (some r) = by-long (r .next) (ltb textLimit (longest (r .value)))
 
 -- where they are answered
 pub users-to : (line : List ℕ) (allow : Bool) (at : ℕ) {users : Users} {end : ℕ} → usersUpTo line allow at ≡ PassedUsers users end → UsersTo line allow at users end

@@ -7,14 +7,17 @@ use mathlib.Core.List.{List, map}
 use mathlib.Core.Option.{Option, none, some, bind, Option·map}
 use lib.Dec.{T}
 use lib.ListN.{length}
+use borrow.Author.Tests.{ne-eqb}
 use denote.Enum.Declared.{tagOf}
 use types.Run.{OneOf, miss}
 use mir.Val.{hasKey}
 use Rattle.text.specs.Ascii.{ascii}
 use Rattle.text.specs.Text.{same}
 use Rattle.text.proofs.Laws.{same-true}
+use Rattle.json.specs.Utf8.{byteAt, between}
 use Rattle.json.specs.Strings.{Decoded, stringAt}
-use Rattle.json.specs.Json.{Json, null, bool, number, text, array, object, Members, no-member, member, Read, textAt, readAs, depthLimit}
+use Rattle.json.specs.Plain.{plainText}
+use Rattle.json.specs.Json.{Json, null, bool, number, text, array, object, Members, no-member, member, Read, isAt, kindOf, textAt, readAs, depthLimit}
 use Rattle.json.specs.Access.{valueHere, kindAt, behind, lastNamed, namedIn, memberNamed, truthOf}
 use Rattle.json.specs.declared.Place.{Place}
 use Rattle.json.specs.declared.Place.the-variants.{At, Nowhere}
@@ -23,7 +26,8 @@ use Rattle.json.specs.declared.Found.the-variants.{Is as FoundIs, Absent}
 use Rattle.json.specs.declared.Truth.{Truth}
 use Rattle.json.specs.declared.Kind.{Kind}
 use Rattle.json.specs.declared.Kind.the-variants.{Number, Text, Array, Object, Word as WordKind, Blank, Other as OtherKind}
-use Rattle.json.proofs.AccessSteps.{kindIs}
+use Rattle.json.proofs.AccessSteps.{kindIs, kind-opens}
+use Rattle.json.proofs.PlainLaws.{plain-text-by}
 use Rattle.json.proofs.AccessLaws.{MembersIn, kind-is, object-is, named-is, numberOf, number-is, truth-is, string-here}
 use Rattle.json.proofs.Kind as kind
 use Rattle.json.proofs.ValueLaws.{All, valueAs, value-by}
@@ -351,6 +355,30 @@ not-text line at = by (kindAt line at)
     by WordKind h = refl
     by Blank h = refl
     by OtherKind h = refl
+
+-- by its kind: whether a bracket or a quote opens there
+pub array-opens : (line : List ℕ) (at : ℕ) → kindAt line at ≡ Array → isAt line at 0x5b ≡ true
+unfolding kindAt
+array-opens line at e = kind-opens false line at e
+
+pub object-opens : (line : List ℕ) (at : ℕ) → kindAt line at ≡ Object → isAt line at 0x7b ≡ true
+unfolding kindAt
+object-opens line at e = kind-opens true line at e
+
+shut : (b : ℕ) (line : List ℕ) (at : ℕ) {k : Kind} → kindOf b ≡ k → (kindAt line at ≡ k → ⊥) → isAt line at b ≡ false
+unfolding isAt kindAt
+shut b line at e h = ne-eqb (byteAt line at) b (λ q. h (ap kindOf q ∙ e))
+
+pub no-array : (line : List ℕ) (at : ℕ) → (kindAt line at ≡ Array → ⊥) → isAt line at 0x5b ≡ false
+no-array line at = shut 0x5b line at (unfold kindOf between in refl)
+
+pub no-object : (line : List ℕ) (at : ℕ) → (kindAt line at ≡ Object → ⊥) → isAt line at 0x7b ≡ false
+no-object line at = shut 0x7b line at (unfold kindOf between in refl)
+
+pub no-text : (line : List ℕ) (at : ℕ) → (kindAt line at ≡ Text → ⊥) → plainText line at ≡ Nowhere
+no-text line at h =
+    let k : kindOf 0x22 ≡ Text = unfold kindOf between in refl in
+    plain-text-by line at (shut 0x22 line at k h) refl
 
 -- a value that is read is of the kind that its byte says
 values-kind : (line : List ℕ) (at : ℕ) → All (λ (v : Value). kindIs (v .value) ≡ kindAt line at) (valueOf line at)

@@ -308,9 +308,9 @@ pub eq-unopened : (line : List ℕ) (at : ℕ) → isAt line at 0x7b ≡ false �
 unfolding eqOf
 eq-unopened line at b = rw b
 
-pub eq-named : (line : List ℕ) (at : ℕ) {name : ℕ} {o : Place} → isAt line at 0x7b ≡ true → name ≡ skipBlanks line (at + 1) → plainText line name ≡ o → eqOf line at ≡ eqNamed line name o
+pub eq-named : (line : List ℕ) (at : ℕ) {name : ℕ} → isAt line at 0x7b ≡ true → name ≡ skipBlanks line (at + 1) → eqOf line at ≡ eqNamed line name (plainText line name)
 unfolding eqOf
-eq-named line at b n p = rw (b, sym n, p)
+eq-named line at b n = rw (b, sym n)
 
 pub eq-valued : (line : List ℕ) (name last : ℕ) {i : Bool} {o : Place} → same (take (last - (name + 1)) (drop (name + 1) line)) (ascii "eq") ≡ i → valueBehind line (last + 1) ≡ o
     → eqNamed line name (At last) ≡ cond i (eqValued line o) UnreadEq

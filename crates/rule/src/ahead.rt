@@ -9,10 +9,11 @@ use crate::Topics;
 use crate::listed::value_behind;
 use crate::words::control_of;
 use crate::words::word_of;
+use json::Kind;
 use json::Place;
 use json::Separator;
+use json::access::kind_at;
 use json::access::plain_text;
-use json::values::is_at;
 use json::values::separator;
 use json::values::skip_blanks;
 ghost use mathlib.Core.Path.{_≡_};
@@ -51,10 +52,16 @@ fn from_word(line: &[u8], at: usize) -> Rest
 pub fn eq_text(line: &[u8], at: usize) -> EqPassed
     ensures { λ r. ⌜ r ≡ spec.eqOf (now (line .entry)) at ⌝ }
 {
-    if !is_at(line, at, b'{') {
-        return EqPassed::Unread;
+    match kind_at(line, at) {
+        Kind::Object => eq_member(line, skip_blanks(line, at + 1)),
+        _ => EqPassed::Unread,
     }
-    let name = skip_blanks(line, at + 1);
+}
+
+// The same, from the member's name on.
+fn eq_member(line: &[u8], name: usize) -> EqPassed
+    ensures { λ r. ⌜ r ≡ spec.eqNamed (now (line .entry)) name (plainText (now (line .entry)) name) ⌝ }
+{
     let Place::At(end) = plain_text(line, name) else {
         return EqPassed::Unread;
     };

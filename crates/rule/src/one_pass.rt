@@ -28,9 +28,11 @@ use crate::topic_list::topic_at;
 use crate::words::control_of;
 use crate::words::word_of;
 use json::Cursor;
+use json::Kind;
 use json::Place;
 use json::Separator;
 use json::Step;
+use json::access::kind_at;
 use json::access::plain_text;
 use json::values::is_at;
 use json::values::separator;
@@ -44,6 +46,7 @@ ghost use Rattle.rule.specs.OnePass as spec;
 ghost use Rattle.rule.specs.Members as members;
 ghost use Rattle.rule.specs.Front as front;
 ghost use Rattle.text.specs.Text.{same};
+ghost use Rattle.json.specs.Plain.{plainText};
 ghost use Rattle.json.specs.declared.Place.the-variants.{At};
 
 // How many brackets may be open inside the line's array, and inside the users' object or the topics' array.
@@ -76,12 +79,25 @@ fn is_topic(text: &[u8]) -> bool
     is_template(text)
 }
 
-// The place behind an object at this place whose only member is a plain `eq`.
+// The place behind the topic at this place, which is passed over and then read.
+fn topic_passed(line: &[u8], at: usize) -> Place
+    ensures { λ r. ⌜ spec.WherePlace r (spec.TopicTo (now (line .entry)) at) ⌝ }
+{
+    let Place::At(end) = part_end(line, at, 0) else {
+        return Place::Nowhere;
+    };
+    if let Topic::Bad = topic_at(line, at) {
+        return Place::Nowhere;
+    }
+    Place::At(end)
+}
+
+// The place behind the object at this place: one whose only member is a plain `eq` is read as it stands.
 fn eq_end(line: &[u8], at: usize) -> Place
     ensures { λ r. ⌜ spec.WherePlace r (spec.TopicTo (now (line .entry)) at) ⌝ }
 {
     let EqPassed::Text(opens, closes, end) = eq_text(line, at) else {
-        return Place::Nowhere;
+        return topic_passed(line, at);
     };
     if TEXT < closes - (opens + 1) {
         return Place::Nowhere;
@@ -89,8 +105,8 @@ fn eq_end(line: &[u8], at: usize) -> Place
     Place::At(end)
 }
 
-// The place behind the topic at this place.
-fn topic_end(line: &[u8], at: usize) -> Place
+// The place behind the string at this place: a plain one is tested as it stands.
+fn string_end(line: &[u8], at: usize) -> Place
     ensures { λ r. ⌜ spec.WherePlace r (spec.TopicTo (now (line .entry)) at) ⌝ }
 {
     if let Place::At(end) = plain_text(line, at) {
@@ -102,25 +118,27 @@ fn topic_end(line: &[u8], at: usize) -> Place
         }
         return Place::Nowhere;
     }
-    if let Place::At(end) = eq_end(line, at) {
-        return Place::At(end);
+    topic_passed(line, at)
+}
+
+// The place behind the topic at this place: a string or an object.
+fn topic_end(line: &[u8], at: usize) -> Place
+    ensures { λ r. ⌜ spec.WherePlace r (spec.TopicTo (now (line .entry)) at) ⌝ }
+{
+    match kind_at(line, at) {
+        Kind::Text => string_end(line, at),
+        Kind::Object => eq_end(line, at),
+        _ => Place::Nowhere,
     }
-    let Place::At(end) = part_end(line, at, 0) else {
-        return Place::Nowhere;
-    };
-    if let Topic::Bad = topic_at(line, at) {
-        return Place::Nowhere;
-    }
-    Place::At(end)
 }
 
 // The place behind the array of topics at this place.
 fn topics_end(line: &[u8], at: usize) -> Place
     ensures { λ r. ⌜ spec.WherePlace r (spec.TopicsTo (now (line .entry)) at) ⌝ }
 {
-    if !is_at(line, at, b'[') {
+    let Kind::Array = kind_at(line, at) else {
         return Place::Nowhere;
-    }
+    };
     let mut i = skip_blanks(line, at + 1);
     let mut n: u64 = 0;
     while n < TOPICS {
@@ -290,19 +308,10 @@ fn everyone_end(line: &[u8], allow: bool, at: usize) -> UsersPassed
     }
 }
 
-// The users at this place, and the place behind them.
-pub fn users_end(line: &[u8], allow: bool, at: usize) -> UsersPassed
+// The users at this place, which are passed over and then read, and the place behind them.
+fn users_passed(line: &[u8], allow: bool, at: usize) -> UsersPassed
     ensures { λ r. ⌜ r ≡ front.usersUpTo (now (line .entry)) allow at ⌝ }
 {
-    if let UsersPassed::Users(everyone, behind) = everyone_end(line, allow, at) {
-        return UsersPassed::Users(everyone, behind);
-    }
-    if let MembersPassed::Places(places, end) = members_end(line, at) {
-        if let UsersRead::Users(users) = users_of(line, places, allow) {
-            return UsersPassed::Users(users, end);
-        }
-        return UsersPassed::Unread;
-    }
     let Step::Next(c) = value(Cursor { at, longest: 0 }, line, IN_LINE) else {
         return UsersPassed::Unread;
     };
@@ -313,6 +322,30 @@ pub fn users_end(line: &[u8], allow: bool, at: usize) -> UsersPassed
         return UsersPassed::Unread;
     };
     UsersPassed::Users(users, c.at)
+}
+
+// The users at this place, a word or an object, and the place behind them.
+pub fn users_end(line: &[u8], allow: bool, at: usize) -> UsersPassed
+    ensures { λ r. ⌜ r ≡ front.usersUpTo (now (line .entry)) allow at ⌝ }
+{
+    match kind_at(line, at) {
+        Kind::Text => {
+            if let UsersPassed::Users(everyone, behind) = everyone_end(line, allow, at) {
+                return UsersPassed::Users(everyone, behind);
+            }
+            users_passed(line, allow, at)
+        }
+        Kind::Object => {
+            if let MembersPassed::Places(places, end) = members_end(line, at) {
+                if let UsersRead::Users(users) = users_of(line, places, allow) {
+                    return UsersPassed::Users(users, end);
+                }
+                return UsersPassed::Unread;
+            }
+            users_passed(line, allow, at)
+        }
+        _ => UsersPassed::Unread,
+    }
 }
 
 // The rule, from its users on.
@@ -355,22 +388,28 @@ fn access_of(word: Word, users: usize) -> AccessPassed
     }
 }
 
-// The access of the line, if it is a plain word, and the place of the users.
+// The access, if it is a plain word at this place, and the place of the users.
+fn access_word(line: &[u8], at: usize) -> AccessPassed
+    ensures { λ r. ⌜ r ≡ front.accessFrom (now (line .entry)) at (plainText (now (line .entry)) at) ⌝ }
+{
+    let Place::At(end) = plain_text(line, at) else {
+        return AccessPassed::Unread;
+    };
+    match separator(line, end + 1, b']') {
+        Separator::Comma(users) => access_of(word_of(&line[at + 1..end]), users),
+        Separator::Close(_) => AccessPassed::Unread,
+        Separator::Neither => AccessPassed::Unread,
+    }
+}
+
+// The access of the line's array, if it is a plain word, and the place of the users.
 pub fn access_end(line: &[u8]) -> AccessPassed
     ensures { λ r. ⌜ r ≡ front.accessOf (now (line .entry)) ⌝ }
 {
     let first = skip_blanks(line, 0);
-    if !is_at(line, first, b'[') {
-        return AccessPassed::Unread;
-    }
-    let access = skip_blanks(line, first + 1);
-    let Place::At(end) = plain_text(line, access) else {
-        return AccessPassed::Unread;
-    };
-    match separator(line, end + 1, b']') {
-        Separator::Comma(users) => access_of(word_of(&line[access + 1..end]), users),
-        Separator::Close(_) => AccessPassed::Unread,
-        Separator::Neither => AccessPassed::Unread,
+    match kind_at(line, first) {
+        Kind::Array => access_word(line, skip_blanks(line, first + 1)),
+        _ => AccessPassed::Unread,
     }
 }
 

@@ -1,180 +1,52 @@
--- One member, with a plain name and a plain string. Assumes nothing.
+-- By the kind of what stands there: an object, or something else. Assumes nothing.
 use native.Mathlib.Omega.{arith}
-use mathlib.Core.Path.{refl, sym, _∙_}
+use mathlib.Core.Path.{sym, _∙_}
+use mathlib.Core.List.{[], _∷_}
 use denote.Ref.{now}
-use borrow.Author.Tests.{not-false, not-true}
+use Rattle.json.specs.declared.Kind.the-variants.{Object}
 use Rattle.json.proofs.ScanLaws.{at-within}
-use Rattle.json.proofs.PlainLaws.{Plain, plain-string}
-use Rattle.rule.specs.Front.{eqNamed, eqValued, eqQuoted, eqBefore}
-use Rattle.rule.proofs.OnePassLaws.{eq-unopened, eq-named, eq-valued, eq-quoted, eq-ended}
+use Rattle.rule.proofs.MemberLaws.{other-kind, object-opens, no-object}
+use Rattle.rule.proofs.OnePassLaws.{eq-unopened, eq-named}
 use borrow.Author.Needs.{needs}
 use Rattle.rule.proofs.ahead.eq_text.Statement.{statement}
 use Rattle.rule.proofs.ahead.eq_text.Tie as tie
 
--- the plain name, and the plain string behind it
-named : (c : tie.After-known-told) → Plain (now (c .before .before .before .before .before .before .before .before .args .line)) (c .before .before .before .before .skip-blanks .result) (c .before .end .given .0 .0)
-named c = plain-string (now (c .before .before .before .before .before .before .before .before .args .line)) (c .before .before .before .before .skip-blanks .result) (sym (c .before .before .before .plain-text .ensures) ∙ c .before .end .given .1)
-
-valued : (c : tie.After-known-told3) → Plain (now (c .before .before .before .before .before .before .before .before .before .before .before .before .before .before .before .before .before .before .before .before .args .line)) (c .before .before .before .before .before .p .given .0 .0) (c .before .last .given .0 .0)
-valued c = plain-string (now (c .before .before .before .before .before .before .before .before .before .before .before .before .before .before .before .before .before .before .before .before .args .line)) (c .before .before .before .before .before .p .given .0 .0) (sym (c .before .before .before .plain-text2 .ensures) ∙ c .before .last .given .1)
-
-is-at-requires : tie.Need-is-at-requires
-is-at-requires c κs = search needs
-
-returns : tie.Need-returns
-returns c = sym (eq-unopened _ _ (sym (c .before .is-at .ensures) ∙ not-true _ (c .if1 .taken)))
-
-add-skip-blanks : tie.Need-add-skip-blanks
-add-skip-blanks c = omega (arith, at-within (now (c .before .before .before .args .line)) _ 0x7b (omega arith) (sym (c .before .is-at .ensures) ∙ not-false _ (c .if1 .left)))
-
-skip-blanks-requires : tie.Need-skip-blanks-requires
-skip-blanks-requires c κs = search needs
-
-plain-text-requires : tie.Need-plain-text-requires
-plain-text-requires c κs = search needs
-
-enum-known-end : tie.Need-enum-known-end
-enum-known-end c = search needs
+kind-at-requires : tie.Need-kind-at-requires
+kind-at-requires c κs = search needs
 
 enum-told : tie.Need-enum-told
 enum-told c = search needs
 
+add-skip-blanks : tie.Need-add-skip-blanks
+add-skip-blanks c =
+    let a = c .before .before .before .before .args in
+    omega (arith, at-within (now (a .line)) (a .at) 0x7b (omega arith) (object-opens (now (a .line)) (a .at) (sym (c .before .before .kind-at .ensures) ∙ c .enum-told .given .1)))
+
+skip-blanks-requires : tie.Need-skip-blanks-requires
+skip-blanks-requires c κs = search needs
+
+eq-member-requires : tie.Need-eq-member-requires
+eq-member-requires c κs = search needs
+
+returns : tie.Need-returns
+returns c =
+    let a = c .before .before .before .before .before .before .args in
+    c .eq-member .ensures ∙ sym (eq-named (now (a .line)) (a .at) (object-opens (now (a .line)) (a .at) (sym (c .before .before .before .before .kind-at .ensures) ∙ c .before .before .enum-told .given .1)) (c .before .skip-blanks .ensures))
+
 returns-2 : tie.Need-returns-2
-unfolding eqNamed
-returns-2 c = sym (eq-named (now (c .before .before .before .before .before .before .before .args .line)) (c .before .before .before .before .before .before .before .args .at) (sym (c .before .before .before .before .before .is-at .ensures) ∙ not-false _ (c .before .before .before .before .if1 .left)) (c .before .before .before .skip-blanks .ensures) (sym (c .before .before .plain-text .ensures) ∙ c .enum-told .given .1))
-
-add-same : tie.Need-add-same
-add-same c = let p = named c in omega arith
-
-sub-same : tie.Need-sub-same
-sub-same c = let p = named c in omega arith
-
-part-same-start : tie.Need-part-same-start
-part-same-start c = let p = named c in omega arith
-
-part-same-end : tie.Need-part-same-end
-part-same-end c = let p = named c in omega arith
-
-slice-aggregate-same : tie.Need-slice-aggregate-same
-slice-aggregate-same c = search needs
-
-same-requires : tie.Need-same-requires
-same-requires c κs = search needs
-
-returns-3 : tie.Need-returns-3
-returns-3 c =
-    sym
-    (eq-named (now (c .before .before .before .before .before .before .before .before .before .before .before .before .args .line)) (c .before .before .before .before .before .before .before .before .before .before .before .before .args .at) (sym (c .before .before .before .before .before .before .before .before .before .before .is-at .ensures) ∙ not-false _ (c .before .before .before .before .before .before .before .before .before .if1 .left)) (c .before .before .before .before .before .before .before .before .skip-blanks .ensures) (sym (c .before .before .before .before .before .before .before .plain-text .ensures) ∙ c .before .before .before .before .before .end .given .1)
-    ∙ eq-valued (now (c .before .before .before .before .before .before .before .before .before .before .before .before .args .line)) _ _ (sym (c .before .same .ensures) ∙ not-true _ (c .if2 .taken)) refl)
-
-add-value-behind : tie.Need-add-value-behind
-add-value-behind c = let p = named (c .before .before .before .before) in omega arith
-
-value-behind-requires : tie.Need-value-behind-requires
-value-behind-requires c κs = search needs
-
-enum-known-p : tie.Need-enum-known-p
-enum-known-p c = search needs
-
-enum-told-2 : tie.Need-enum-told-2
-enum-told-2 c = search needs
-
-returns-4 : tie.Need-returns-4
-unfolding eqValued
-returns-4 c =
-    sym
-    (eq-named (now (c .before .before .before .before .before .before .before .before .before .before .before .before .before .before .before .args .line)) (c .before .before .before .before .before .before .before .before .before .before .before .before .before .before .before .args .at) (sym (c .before .before .before .before .before .before .before .before .before .before .before .before .before .is-at .ensures) ∙ not-false _ (c .before .before .before .before .before .before .before .before .before .before .before .before .if1 .left)) (c .before .before .before .before .before .before .before .before .before .before .before .skip-blanks .ensures) (sym (c .before .before .before .before .before .before .before .before .before .before .plain-text .ensures) ∙ c .before .before .before .before .before .before .before .before .end .given .1)
-    ∙ eq-valued (now (c .before .before .before .before .before .before .before .before .before .before .before .before .before .before .before .args .line)) _ _ (sym (c .before .before .before .before .same .ensures) ∙ not-false _ (c .before .before .before .if2 .left)) (sym (c .before .before .value-behind .ensures) ∙ c .enum-told2 .given .1))
-
-plain-text-requires-2 : tie.Need-plain-text-requires-2
-plain-text-requires-2 c κs = search needs
-
-enum-known-last : tie.Need-enum-known-last
-enum-known-last c = search needs
-
-enum-told-3 : tie.Need-enum-told-3
-enum-told-3 c = search needs
-
-returns-5 : tie.Need-returns-5
-unfolding eqQuoted
-returns-5 c =
-    sym
-    (eq-named (now (c .before .before .before .before .before .before .before .before .before .before .before .before .before .before .before .before .before .before .before .args .line)) (c .before .before .before .before .before .before .before .before .before .before .before .before .before .before .before .before .before .before .before .args .at) (sym (c .before .before .before .before .before .before .before .before .before .before .before .before .before .before .before .before .before .is-at .ensures) ∙ not-false _ (c .before .before .before .before .before .before .before .before .before .before .before .before .before .before .before .before .if1 .left)) (c .before .before .before .before .before .before .before .before .before .before .before .before .before .before .before .skip-blanks .ensures) (sym (c .before .before .before .before .before .before .before .before .before .before .before .before .before .before .plain-text .ensures) ∙ c .before .before .before .before .before .before .before .before .before .before .before .before .end .given .1)
-    ∙ (eq-valued (now (c .before .before .before .before .before .before .before .before .before .before .before .before .before .before .before .before .before .before .before .args .line)) _ _ (sym (c .before .before .before .before .before .before .before .before .same .ensures) ∙ not-false _ (c .before .before .before .before .before .before .before .if2 .left)) (sym (c .before .before .before .before .before .before .value-behind .ensures) ∙ c .before .before .before .before .p .given .1)
-    ∙ eq-quoted (now (c .before .before .before .before .before .before .before .before .before .before .before .before .before .before .before .before .before .before .before .args .line)) _ (sym (c .before .before .plain-text2 .ensures) ∙ c .enum-told3 .given .1)))
-
-add-separator : tie.Need-add-separator
-add-separator c = let p = valued c in omega arith
-
-separator-requires : tie.Need-separator-requires
-separator-requires c κs = search needs
-
-enum-known-next : tie.Need-enum-known-next
-enum-known-next c = search needs
-
-enum-told-4 : tie.Need-enum-told-4
-enum-told-4 c = search needs
-
-enum-told-5 : tie.Need-enum-told-5
-enum-told-5 c = search needs
-
-returns-6 : tie.Need-returns-6
-unfolding eqBefore
-returns-6 c =
-    sym
-    (eq-named (now (c .before .before .before .before .before .before .before .before .before .before .before .before .before .before .before .before .before .before .before .before .before .before .before .before .args .line)) (c .before .before .before .before .before .before .before .before .before .before .before .before .before .before .before .before .before .before .before .before .before .before .before .before .args .at) (sym (c .before .before .before .before .before .before .before .before .before .before .before .before .before .before .before .before .before .before .before .before .before .before .is-at .ensures) ∙ not-false _ (c .before .before .before .before .before .before .before .before .before .before .before .before .before .before .before .before .before .before .before .before .before .if1 .left)) (c .before .before .before .before .before .before .before .before .before .before .before .before .before .before .before .before .before .before .before .before .skip-blanks .ensures) (sym (c .before .before .before .before .before .before .before .before .before .before .before .before .before .before .before .before .before .before .before .plain-text .ensures) ∙ c .before .before .before .before .before .before .before .before .before .before .before .before .before .before .before .before .before .end .given .1)
-    ∙ (eq-valued (now (c .before .before .before .before .before .before .before .before .before .before .before .before .before .before .before .before .before .before .before .before .before .before .before .before .args .line)) _ _ (sym (c .before .before .before .before .before .before .before .before .before .before .before .before .before .same .ensures) ∙ not-false _ (c .before .before .before .before .before .before .before .before .before .before .before .before .if2 .left)) (sym (c .before .before .before .before .before .before .before .before .before .before .before .value-behind .ensures) ∙ c .before .before .before .before .before .before .before .before .before .p .given .1)
-    ∙ (eq-quoted (now (c .before .before .before .before .before .before .before .before .before .before .before .before .before .before .before .before .before .before .before .before .before .before .before .before .args .line)) _ (sym (c .before .before .before .before .before .before .before .plain-text2 .ensures) ∙ c .before .before .before .before .before .last .given .1) ∙ eq-ended (now (c .before .before .before .before .before .before .before .before .before .before .before .before .before .before .before .before .before .before .before .before .before .before .before .before .args .line)) _ _ (sym (c .before .before .before .separator .ensures) ∙ c .before .next .given .1))))
-
-returns-7 : tie.Need-returns-7
-unfolding eqBefore
-returns-7 c =
-    sym
-    (eq-named (now (c .before .before .before .before .before .before .before .before .before .before .before .before .before .before .before .before .before .before .before .before .before .before .before .args .line)) (c .before .before .before .before .before .before .before .before .before .before .before .before .before .before .before .before .before .before .before .before .before .before .before .args .at) (sym (c .before .before .before .before .before .before .before .before .before .before .before .before .before .before .before .before .before .before .before .before .before .is-at .ensures) ∙ not-false _ (c .before .before .before .before .before .before .before .before .before .before .before .before .before .before .before .before .before .before .before .before .if1 .left)) (c .before .before .before .before .before .before .before .before .before .before .before .before .before .before .before .before .before .before .before .skip-blanks .ensures) (sym (c .before .before .before .before .before .before .before .before .before .before .before .before .before .before .before .before .before .before .plain-text .ensures) ∙ c .before .before .before .before .before .before .before .before .before .before .before .before .before .before .before .before .end .given .1)
-    ∙ (eq-valued (now (c .before .before .before .before .before .before .before .before .before .before .before .before .before .before .before .before .before .before .before .before .before .before .before .args .line)) _ _ (sym (c .before .before .before .before .before .before .before .before .before .before .before .before .same .ensures) ∙ not-false _ (c .before .before .before .before .before .before .before .before .before .before .before .if2 .left)) (sym (c .before .before .before .before .before .before .before .before .before .before .value-behind .ensures) ∙ c .before .before .before .before .before .before .before .before .p .given .1)
-    ∙ (eq-quoted (now (c .before .before .before .before .before .before .before .before .before .before .before .before .before .before .before .before .before .before .before .before .before .before .before .args .line)) _ (sym (c .before .before .before .before .before .before .plain-text2 .ensures) ∙ c .before .before .before .before .last .given .1) ∙ eq-ended (now (c .before .before .before .before .before .before .before .before .before .before .before .before .before .before .before .before .before .before .before .before .before .before .before .args .line)) _ _ (sym (c .before .before .separator .ensures) ∙ c .enum-told4 .given .1))))
-
-returns-8 : tie.Need-returns-8
-unfolding eqBefore
-returns-8 c =
-    sym
-    (eq-named (now (c .before .before .before .before .before .before .before .before .before .before .before .before .before .before .before .before .before .before .before .before .before .before .before .args .line)) (c .before .before .before .before .before .before .before .before .before .before .before .before .before .before .before .before .before .before .before .before .before .before .before .args .at) (sym (c .before .before .before .before .before .before .before .before .before .before .before .before .before .before .before .before .before .before .before .before .before .is-at .ensures) ∙ not-false _ (c .before .before .before .before .before .before .before .before .before .before .before .before .before .before .before .before .before .before .before .before .if1 .left)) (c .before .before .before .before .before .before .before .before .before .before .before .before .before .before .before .before .before .before .before .skip-blanks .ensures) (sym (c .before .before .before .before .before .before .before .before .before .before .before .before .before .before .before .before .before .before .plain-text .ensures) ∙ c .before .before .before .before .before .before .before .before .before .before .before .before .before .before .before .before .end .given .1)
-    ∙ (eq-valued (now (c .before .before .before .before .before .before .before .before .before .before .before .before .before .before .before .before .before .before .before .before .before .before .before .args .line)) _ _ (sym (c .before .before .before .before .before .before .before .before .before .before .before .before .same .ensures) ∙ not-false _ (c .before .before .before .before .before .before .before .before .before .before .before .if2 .left)) (sym (c .before .before .before .before .before .before .before .before .before .before .value-behind .ensures) ∙ c .before .before .before .before .before .before .before .before .p .given .1)
-    ∙ (eq-quoted (now (c .before .before .before .before .before .before .before .before .before .before .before .before .before .before .before .before .before .before .before .before .before .before .before .args .line)) _ (sym (c .before .before .before .before .before .before .plain-text2 .ensures) ∙ c .before .before .before .before .last .given .1) ∙ eq-ended (now (c .before .before .before .before .before .before .before .before .before .before .before .before .before .before .before .before .before .before .before .before .before .before .before .args .line)) _ _ (sym (c .before .before .separator .ensures) ∙ c .enum-told5 .given .1))))
+returns-2 c =
+    let a = c .before .before .before .args in
+    let k = c .before .kind-at in
+    sym (eq-unopened (now (a .line)) (a .at) (no-object (now (a .line)) (a .at) (λ e. other-kind (0 ∷ 1 ∷ 2 ∷ 4 ∷ 5 ∷ 6 ∷ []) (k .result) Object (c .match .keys2) tt (k .ensures ∙ e))))
 
 pub eq-text-spec : {M : Type 1} → statement M
 eq-text-spec =
     tie.close
     (tie.spec
-    is-at-requires
-    returns
+    kind-at-requires
+    enum-told
     add-skip-blanks
     skip-blanks-requires
-    plain-text-requires
-    enum-known-end
-    enum-told
-    returns-2
-    add-same
-    sub-same
-    part-same-start
-    part-same-end
-    slice-aggregate-same
-    same-requires
-    returns-3
-    add-value-behind
-    value-behind-requires
-    enum-known-p
-    enum-told-2
-    returns-4
-    plain-text-requires-2
-    enum-known-last
-    enum-told-3
-    returns-5
-    add-separator
-    separator-requires
-    enum-known-next
-    enum-told-4
-    enum-told-5
-    returns-6
-    returns-7
-    returns-8)
+    eq-member-requires
+    returns
+    returns-2)

@@ -1,123 +1,56 @@
--- The access is a plain word, and the users stand behind it. Assumes nothing.
+-- By the kind of the byte that the line begins with: an array, or something else. Assumes nothing.
 use native.Mathlib.Omega.{arith}
-use mathlib.Core.Path.{sym, ap, _∙_}
+use mathlib.Core.Path.{sym, _∙_}
+use mathlib.Core.List.{[], _∷_}
 use denote.Ref.{now}
-use borrow.Author.Tests.{not-false, not-true}
+use Rattle.json.specs.declared.Kind.the-variants.{Array}
 use Rattle.json.proofs.ScanLaws.{at-within}
-use Rattle.json.proofs.PlainLaws.{Plain, plain-string}
-use Rattle.rule.specs.Front.{accessFrom, accessBefore, accessTold, accessOfWord}
-use Rattle.rule.specs.declared.Word.{Word}
-use Rattle.rule.proofs.FrontLaws.{access-unopened, access-word-at, access-behind}
+use Rattle.rule.proofs.MemberLaws.{other-kind, array-opens, no-array}
+use Rattle.rule.proofs.FrontLaws.{access-unopened, access-word-at}
 use borrow.Author.Needs.{needs}
 use Rattle.rule.proofs.one_pass.access_end.Statement.{statement}
 use Rattle.rule.proofs.one_pass.access_end.Tie as tie
 
--- the plain string that was found
-found : (c : tie.After-known-told) → Plain (now (c .before .before .before .before .before .before .before .before .before .args .line)) (c .before .before .before .before .skip-blanks2 .result) (c .before .end .given .0 .0)
-found c = plain-string (now (c .before .before .before .before .before .before .before .before .before .args .line)) (c .before .before .before .before .skip-blanks2 .result) (sym (c .before .before .before .plain-text .ensures) ∙ c .before .end .given .1)
-
 skip-blanks-requires : tie.Need-skip-blanks-requires
 skip-blanks-requires c κs = search needs
 
-is-at-requires : tie.Need-is-at-requires
-is-at-requires c κs = search needs
-
-returns : tie.Need-returns
-returns c = sym (access-unopened _ (c .before .before .skip-blanks .ensures) (sym (c .before .is-at .ensures) ∙ not-true _ (c .if1 .taken)))
-
-add-skip-blanks : tie.Need-add-skip-blanks
-add-skip-blanks c =
-    let a = c .before .before .before .before .args in
-    omega (arith, at-within (now (a .line)) _ 0x5b (omega arith) (sym (c .before .is-at .ensures) ∙ not-false _ (c .if1 .left)))
-
-skip-blanks-requires-2 : tie.Need-skip-blanks-requires-2
-skip-blanks-requires-2 c κs = search needs
-
-plain-text-requires : tie.Need-plain-text-requires
-plain-text-requires c κs = search needs
-
-enum-known-end : tie.Need-enum-known-end
-enum-known-end c = search needs
+kind-at-requires : tie.Need-kind-at-requires
+kind-at-requires c κs = search needs
 
 enum-told : tie.Need-enum-told
 enum-told c = search needs
 
+add-skip-blanks : tie.Need-add-skip-blanks
+add-skip-blanks c =
+    let line = now (c .before .before .before .before .before .args .line) in
+    omega (arith, at-within line _ 0x5b (omega arith) (array-opens line _ (sym (c .before .before .kind-at .ensures) ∙ c .enum-told .given .1)))
+
+skip-blanks-requires-2 : tie.Need-skip-blanks-requires-2
+skip-blanks-requires-2 c κs = search needs
+
+access-word-requires : tie.Need-access-word-requires
+access-word-requires c κs = search needs
+
+returns : tie.Need-returns
+returns c =
+    let line = now (c .before .before .before .before .before .before .before .args .line) in
+    c .access-word .ensures ∙ sym (access-word-at line (c .before .before .before .before .before .skip-blanks .ensures) (array-opens line _ (sym (c .before .before .before .before .kind-at .ensures) ∙ c .before .before .enum-told .given .1)) (c .before .skip-blanks2 .ensures))
+
 returns-2 : tie.Need-returns-2
-unfolding accessFrom
-returns-2 c = sym (access-word-at (now (c .before .before .before .before .before .before .before .before .args .line)) (c .before .before .before .before .before .before .skip-blanks .ensures) (sym (c .before .before .before .before .before .is-at .ensures) ∙ not-false _ (c .before .before .before .before .if1 .left)) (c .before .before .before .skip-blanks2 .ensures) (sym (c .before .before .plain-text .ensures) ∙ c .enum-told .given .1))
-
-add-separator : tie.Need-add-separator
-add-separator c = let p = found c in omega arith
-
-separator-requires : tie.Need-separator-requires
-separator-requires c κs = search needs
-
-enum-known-users : tie.Need-enum-known-users
-enum-known-users c = search needs
-
-add-word-of : tie.Need-add-word-of
-add-word-of c = let p = found (c .before .before .before .before) in omega arith
-
-sub-word-of : tie.Need-sub-word-of
-sub-word-of c = let p = found (c .before .before .before .before) in omega arith
-
-part-word-of-start : tie.Need-part-word-of-start
-part-word-of-start c = let p = found (c .before .before .before .before) in omega arith
-
-part-word-of-end : tie.Need-part-word-of-end
-part-word-of-end c = let p = found (c .before .before .before .before) in omega arith
-
-word-of-requires : tie.Need-word-of-requires
-word-of-requires c κs = search needs
-
-access-of-requires : tie.Need-access-of-requires
-access-of-requires c κs = search needs
-
-enum-told-2 : tie.Need-enum-told-2
-enum-told-2 c = search needs
-
-enum-told-3 : tie.Need-enum-told-3
-enum-told-3 c = search needs
-
-returns-3 : tie.Need-returns-3
-unfolding accessBefore
-returns-3 c =
-    c .access-of .ensures
-    ∙ (ap (λ (w : Word). accessTold (accessOfWord w) (c .before .before .before .before .users .given .0 .0)) (c .before .word-of .ensures)
-    ∙ sym (access-behind (now (c .before .before .before .before .before .before .before .before .before .before .before .before .before .before .before .before .args .line)) (c .before .before .before .before .before .before .before .before .before .before .before .before .before .before .skip-blanks .ensures) (sym (c .before .before .before .before .before .before .before .before .before .before .before .before .before .is-at .ensures) ∙ not-false _ (c .before .before .before .before .before .before .before .before .before .before .before .before .if1 .left)) (c .before .before .before .before .before .before .before .before .before .before .before .skip-blanks2 .ensures) (sym (c .before .before .before .before .before .before .before .before .before .before .plain-text .ensures) ∙ c .before .before .before .before .before .before .before .before .end .given .1) (sym (c .before .before .before .before .before .before .separator .ensures) ∙ c .before .before .before .before .users .given .1)))
-
-returns-4 : tie.Need-returns-4
-unfolding accessBefore
-returns-4 c = sym (access-behind (now (c .before .before .before .before .before .before .before .before .before .before .before .before .args .line)) (c .before .before .before .before .before .before .before .before .before .before .skip-blanks .ensures) (sym (c .before .before .before .before .before .before .before .before .before .is-at .ensures) ∙ not-false _ (c .before .before .before .before .before .before .before .before .if1 .left)) (c .before .before .before .before .before .before .before .skip-blanks2 .ensures) (sym (c .before .before .before .before .before .before .plain-text .ensures) ∙ c .before .before .before .before .end .given .1) (sym (c .before .before .separator .ensures) ∙ c .enum-told2 .given .1))
-
-returns-5 : tie.Need-returns-5
-unfolding accessBefore
-returns-5 c = sym (access-behind (now (c .before .before .before .before .before .before .before .before .before .before .before .before .args .line)) (c .before .before .before .before .before .before .before .before .before .before .skip-blanks .ensures) (sym (c .before .before .before .before .before .before .before .before .before .is-at .ensures) ∙ not-false _ (c .before .before .before .before .before .before .before .before .if1 .left)) (c .before .before .before .before .before .before .before .skip-blanks2 .ensures) (sym (c .before .before .before .before .before .before .plain-text .ensures) ∙ c .before .before .before .before .end .given .1) (sym (c .before .before .separator .ensures) ∙ c .enum-told3 .given .1))
+returns-2 c =
+    let line = now (c .before .before .before .before .args .line) in
+    let k = c .before .kind-at in
+    sym (access-unopened line (c .before .before .skip-blanks .ensures) (no-array line _ (λ e. other-kind (0 ∷ 1 ∷ 3 ∷ 4 ∷ 5 ∷ 6 ∷ []) (k .result) Array (c .match .keys2) tt (k .ensures ∙ e))))
 
 pub access-end-spec : {M : Type 1} → statement M
 access-end-spec =
     tie.close
     (tie.spec
     skip-blanks-requires
-    is-at-requires
-    returns
+    kind-at-requires
+    enum-told
     add-skip-blanks
     skip-blanks-requires-2
-    plain-text-requires
-    enum-known-end
-    enum-told
-    returns-2
-    add-separator
-    separator-requires
-    enum-known-users
-    add-word-of
-    sub-word-of
-    part-word-of-start
-    part-word-of-end
-    word-of-requires
-    access-of-requires
-    enum-told-2
-    enum-told-3
-    returns-3
-    returns-4
-    returns-5)
+    access-word-requires
+    returns
+    returns-2)

@@ -16,6 +16,9 @@ enum-known-opens c = search needs
 enum-told : tie.Need-enum-told
 enum-told c = search needs
 
+topic-passed-requires : tie.Need-topic-passed-requires
+topic-passed-requires c κs = search needs
+
 returns : tie.Need-returns
 returns c = search needs
 
@@ -40,6 +43,7 @@ eq-end-spec =
     eq-text-requires
     enum-known-opens
     enum-told
+    topic-passed-requires
     returns
     add-if1
     sub-if1
