@@ -7,11 +7,12 @@ use crate::RuleParts;
 use crate::words::action_here;
 use crate::words::permission_here;
 use json::Cursor;
+use json::Kind;
 use json::Place;
 use json::Separator;
 use json::Step;
+use json::access::kind_at;
 use json::access::plain_text;
-use json::values::is_at;
 use json::values::separator;
 use json::values::skip_blanks;
 use json::values::value;
@@ -151,6 +152,16 @@ fn no_parts() -> RuleParts
     }
 }
 
+// The closing quote of a member's value, if that is a plain string: a number, an array or a word has none.
+fn closing_quote(line: &[u8], at: usize) -> Place
+    ensures { λ r. ⌜ r ≡ plainText (now (line .entry)) at ⌝ }
+{
+    match kind_at(line, at) {
+        Kind::Text => plain_text(line, at),
+        _ => Place::Nowhere,
+    }
+}
+
 // The place behind a member's value, if no string of it is over the limit, nor one of `longest` bytes.
 fn value_end(line: &[u8], at: usize, quote: Place, longest: usize) -> Place
     requires { ⌜ quote ≡ plainText (now line) at ⌝ }
@@ -181,9 +192,9 @@ pub(crate) fn in_one_pass(line: &[u8]) -> LinePassed
     ensures { λ r. ⌜ spec.WhereLine r (spec.LineTo (now (line .entry))) ⌝ }
 {
     let first = skip_blanks(line, 0);
-    if !is_at(line, first, b'{') {
+    let Kind::Object = kind_at(line, first) else {
         return LinePassed::Unread;
-    }
+    };
     let mut found = no_parts();
     let mut i = skip_blanks(line, first + 1);
     while i < line.len() {
@@ -193,7 +204,7 @@ pub(crate) fn in_one_pass(line: &[u8]) -> LinePassed
         let Place::At(p) = value_behind(line, end + 1) else {
             return LinePassed::Unread;
         };
-        let quote = plain_text(line, p);
+        let quote = closing_quote(line, p);
         found = with_member(line, &line[i + 1..end], p, quote, found);
         let Place::At(behind) = value_end(line, p, quote, end - (i + 1)) else {
             return LinePassed::Unread;
