@@ -33,7 +33,10 @@ use Rattle.rule.specs.Fill.{orNothing, fill}
 use Rattle.rule.proofs.Topic as topic
 use Rattle.rule.specs.RuleText.{Filled, readRule, ruleOn, rulesOf, listed, filledTopics, filledRules, filled, ofKind}
 use Rattle.store.specs.Store.{over, View, FilterRow, EqRow, NoteRow, same-filter, same-eq, same-note}
-use Rattle.store.proofs.LayoutLaws.{filter-rows, note-rows}
+use Rattle.store.specs.View.{view}
+use Rattle.store.proofs.LayoutLaws.{filter-rows, note-rows, well-formed-parts, openable-parts}
+use Rattle.store.proofs.ViewLaws.{view-well-formed}
+use Rattle.store.proofs.OpenLaws.{fit-range}
 use Rattle.events.specs.Event.{connected, disconnected, ended, filledFilters, filledEqs, filterRows, eqRows, noteRows, ofSession, clears, cleared, filterChange, newEqs, noteChange, effect}
 use Rattle.events.specs.Templates.{firstTopic, nextTopic, ifTemplate, templateAt, filledTemplate, filledFrom}
 use Rattle.events.proofs.TemplateWalk.{walk-line, walk-topic, walk-end, walk-out}
@@ -332,6 +335,21 @@ pub none-told : (o : Option View) {answer : ShapeRead} → answer ≡ shapeOf o 
 unfolding shapeOf usedIn
 none-told none e is = refl
 none-told (some v) e is = let z : _≡_ {A = ℕ} 0 1 = cc in absurd (omega arith)
+
+-- no table has over 4,096 rows
+pub used-small : (s : List ℕ) {f e n : ℕ} → usedIn (view s) ≡ Rows f e n → (f ≤ 4096) × (e ≤ 4096) × (n ≤ 4096)
+unfolding usedIn
+used-small s {f} {e} {n} is = by (view s) refl is
+  where
+    by : (o : Option View) → view s ≡ o → usedIn o ≡ Rows f e n → (f ≤ 4096) × (e ≤ 4096) × (n ≤ 4096)
+    by none q r = let z : _≡_ {A = ℕ} 0 1 = cc in absurd (omega arith)
+    by (some v) q r =
+        let w = well-formed-parts v (view-well-formed s v q) in
+        let c = fit-range (v .counts) (openable-parts (v .counts) (v .text) (w .head) .counts) in
+        let f-is : length (v .filters) ≡ f = cc in
+        let e-is : length (v .eqs) ≡ e = cc in
+        let n-is : length (v .notes) ≡ n = cc in
+        (omega (arith, w .filters .fits, c .filters-most), omega (arith, w .eqs .fits, c .eqs-most), omega (arith, w .notes .fits, c .notes-most))
 
 -- a line ends before the next begins
 pub line-before : (text : List ℕ) (at : ℕ) → at < length text → at + length (lineAt text at) ≤ nextLine text at
