@@ -1,7 +1,5 @@
 -- The used rows of a store as one number.
-use Prim.Native.Nat.{ℕ, _+_, _*_, _/_, _%_}
-use lib.Dec.{eqb}
-use mathlib.Core.Bool.{cond}
+use Prim.Native.Nat.{ℕ, _+_, _*_}
 use Rattle.hosting.specs.declared.Used.{Used}
 use Rattle.hosting.specs.declared.Used.the-variants.{Rows, Malformed}
 
@@ -12,7 +10,3 @@ malformedNumber = 18446744073709551615
 unfoldable pub usedNumber : Used → ℕ
 usedNumber Malformed = malformedNumber
 usedNumber (Rows filters eqs notes) = filters + 65536 * eqs + 4294967296 * notes
-
--- the counts of a number
-unfoldable pub readUsed : ℕ → Used
-readUsed n = cond (eqb n malformedNumber) Malformed (Rows (n % 65536) (n / 65536 % 65536) (n / 4294967296))
