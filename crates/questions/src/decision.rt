@@ -312,43 +312,32 @@ fn pass_value(line: &[u8], at: usize, topic: &[u8]) -> TopicPassed
     TopicPassed::Onward(next_item(line, at))
 }
 
-// The same of a string. A plain text is tested where it is.
-fn pass_text(line: &[u8], at: usize, topic: &[u8], valid: bool) -> TopicPassed
-    requires { ⌜ valid ≡ validFilter (now topic) ⌝ }
-    ensures { λ r. ⌜ r ≡ spec.passedTopic (now (topic .entry)) (now (line .entry)) at ⌝ }
-{
-    let Place::At(end) = plain_text(line, at) else {
-        return pass_value(line, at, topic);
-    };
-    if text_agrees(&line[at + 1..end], topic, valid) {
-        return TopicPassed::Agrees;
-    }
-    TopicPassed::Onward(element_behind(line, end + 1))
-}
-
-// The same of an object. A plain text under `eq` is tested where it is.
-fn pass_object(line: &[u8], at: usize, topic: &[u8]) -> TopicPassed
-    ensures { λ r. ⌜ r ≡ spec.passedTopic (now (topic .entry)) (now (line .entry)) at ⌝ }
-{
-    let EqPassed::Text(opens, closes, behind) = eq_text(line, at) else {
-        return pass_value(line, at, topic);
-    };
-    if eq_agrees(&line[opens + 1..closes], topic) {
-        return TopicPassed::Agrees;
-    }
-    TopicPassed::Onward(element_behind(line, behind))
-}
-
-// The topic at this place of the rule's array, by its kind: it agrees by itself, or this is the next one.
+// The topic at this place of the rule's array, by its kind: it agrees by itself, or this is the next one. A plain string is tested where it
+// is, and so is one under `eq`; any other topic is read through its value.
 fn pass_topic(line: &[u8], at: usize, topic: &[u8], valid: bool) -> TopicPassed
     requires { ⌜ valid ≡ validFilter (now topic) ⌝ }
     ensures { λ r. ⌜ r ≡ spec.passedTopic (now (topic .entry)) (now (line .entry)) at ⌝ }
 {
     match kind_at(line, at) {
-        Kind::Text => pass_text(line, at, topic, valid),
-        Kind::Object => pass_object(line, at, topic),
-        _ => pass_value(line, at, topic),
+        Kind::Text => {
+            if let Place::At(end) = plain_text(line, at) {
+                if text_agrees(&line[at + 1..end], topic, valid) {
+                    return TopicPassed::Agrees;
+                }
+                return TopicPassed::Onward(element_behind(line, end + 1));
+            }
+        }
+        Kind::Object => {
+            if let EqPassed::Text(opens, closes, behind) = eq_text(line, at) {
+                if eq_agrees(&line[opens + 1..closes], topic) {
+                    return TopicPassed::Agrees;
+                }
+                return TopicPassed::Onward(element_behind(line, behind));
+            }
+        }
+        _ => {}
     }
+    pass_value(line, at, topic)
 }
 
 // Is there an eq row of the rule, counted from 0, that is the topic?
