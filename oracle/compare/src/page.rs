@@ -113,7 +113,7 @@ impl Page {
         if options.only.is_some() || options.length != LENGTH {
             return Err("--write goes with neither --only nor --length".into());
         }
-        if ["ACL_LIB", "MQTT_ACL_LIB", "DECIDE"].iter().any(|name| std::env::var_os(name).is_some()) {
+        if ["MQTT_ACL_LIB", "DECIDE"].iter().any(|name| std::env::var_os(name).is_some()) {
             return Err("--write goes with no other library or program".into());
         }
         assert!(rows().eq(Tally::rows()), "the page has not each row once");
@@ -126,7 +126,7 @@ impl Page {
     fn unchanged(&self) -> Result<(), String> {
         match facts()? == self.compared {
             true => Ok(()),
-            false => Err("crates/, oracle/ or the kit has changed since the run began: no page".into()),
+            false => Err("the code, oracle/ or the kit has changed since the run began: no page".into()),
         }
     }
 
@@ -151,7 +151,7 @@ impl Page {
         };
         let Options { seconds, seed, .. } = options;
         let facts = [
-            ("crates/, git tree", hash(crates)),
+            ("code of the library and `decide`, git tree", hash(crates)),
             ("oracle/, git tree", hash(oracle)),
             ("work tree", state.into()),
             ("kit", kit.trim_start_matches("kit ").into()),
@@ -165,8 +165,8 @@ impl Page {
         let facts: String = facts.iter().map(|(name, value)| format!("| {name} | {value} |\n")).collect();
         let table: String = LINES.iter().map(|line| table_line(line, tally)).collect();
         Ok(format!(
-            "{standing}\n## The run\n\n`oracle/run {seconds} --seed {seed} --write`. While `git rev-parse HEAD:crates \
-             HEAD:oracle` prints the two trees, the page is of what is here.\n\n| | |\n|---|---|\n{facts}\n\
+            "{standing}\n## The run\n\n`oracle/run {seconds} --seed {seed} --write`. While `oracle/facts` prints the two trees, the \
+             page is of what is here.\n\n| | |\n|---|---|\n{facts}\n\
              | kind | the Rust's answer | cases | differences |\n|---|---|---|---|\n{table}"
         ))
     }
@@ -209,7 +209,7 @@ mod tests {
         };
         assert!(page("committed").contains("| work tree | as committed |\n| kit | k 1 |"));
         assert!(page("changed").contains(
-            "| crates/, git tree | `c0` |\n| oracle/, git tree | `04` |\n| work tree | had changes"
+            "| code of the library and `decide`, git tree | `c0` |\n| oracle/, git tree | `04` |\n| work tree | had changes"
         ));
         let mut tally = Tally::default();
         tally.count(oracle::cases::Kind::V, "a", "", true, false);
