@@ -1,6 +1,7 @@
 /* Tests of mqtt_acl.h. What is read from an answer's number, on every number that an answer can be and up to the largest; each call with NULL and
    length 0 for each address, each flag at every value, each text at its longest and one past it, each number that can be
-   refused up to the largest; each inline call, with texts that tell its parameters apart; what is said of a client's life. Built and run by include/check. */
+   refused up to the largest; each inline call, with texts that tell its parameters apart; what is said of a client's life; every byte in a name,
+   the templates of a rule text, the used rows of a store up to the most. Built and run by include/check. */
 #include <stdio.h>
 #include <stdlib.h>
 
@@ -100,6 +101,9 @@ static void nulls(void) {
     CHECK(mqtt_acl_answer_refusal(mqtt_acl_ask_connect(null, FIRST_CONNECT, &nobody)) == MQTT_ACL_MALFORMED);
     CHECK(mqtt_acl_answer_refusal(mqtt_acl_ask_subscribe(null, FIRST, &nobody, none, 0)) == MQTT_ACL_MALFORMED);
     CHECK(mqtt_acl_answer_refusal(mqtt_acl_ask_publish(null, FIRST, &nobody, none, 1)) == MQTT_ACL_MALFORMED);
+    mqtt_acl_rows rows = {7, 8, 9};
+    CHECK(!mqtt_acl_ask_rows(null, &rows) && rows.filters == 7 && rows.eqs == 8 && rows.notes == 9);
+    CHECK(mqtt_acl_ask_plain_name(nobody.id) && !mqtt_acl_ask_filter_templates(nobody.id) && !mqtt_acl_ask_eq_templates(nobody.id));
     CHECK(mqtt_acl_answer_what(mqtt_acl_ask_client_subscribe(&none_own, none, 0)) == MQTT_ACL_NO_DECISION);
     CHECK(mqtt_acl_answer_what(mqtt_acl_ask_client_publish(&root, none, 0, 0, 0)) == MQTT_ACL_PUBLISH_ALLOWED);
 }
@@ -213,6 +217,7 @@ static void null_addresses(void) {
         CHECK(mqtt_acl_connected(STORE(0), 1, AT(1, "i"), 1, AT(2, "n")) == (whole ? 0 : MQTT_ACL_MALFORMED));
         CHECK(mqtt_acl_disconnected(STORE(0), 1, AT(1, "i")) == (whole ? 0 : MQTT_ACL_MALFORMED));
         CHECK(mqtt_acl_ended(STORE(0), 1) == (whole ? 0 : MQTT_ACL_MALFORMED));
+        CHECK(mqtt_acl_used_rows(STORE(0)) == (whole ? 0 : UINT64_MAX));
     }
 }
 
@@ -230,6 +235,9 @@ static void null_texts(void) {
         CHECK(mqtt_acl_valid_filter(AT(0, "a+")) == (null & 1));
         CHECK(mqtt_acl_is_document(AT(0, "1")) == !(null & 1) && mqtt_acl_is_document_within(AT(0, "1"), 0) == !(null & 1));
         CHECK(mqtt_acl_rule_refusal(AT(0, "[]")) == (null & 1 ? MQTT_ACL_NOT_JSON : MQTT_ACL_NOT_A_RULE));
+        CHECK(mqtt_acl_plain_name(AT(0, "+")) == (null & 1));
+        CHECK(mqtt_acl_filter_templates(AT(0, "[\"allow\",\"all\",\"all\",[\"%c\"]]")) == !(null & 1));
+        CHECK(mqtt_acl_eq_templates(AT(0, "[\"allow\",\"all\",\"all\",[{\"eq\":\"%u\"}]]")) == !(null & 1));
         CHECK(mqtt_acl_open(STORE(0), 1, 1, 1, 1, AT(1, "1")) == (null & 1 ? MQTT_ACL_COUNTS : null & 2 ? 0 : MQTT_ACL_NOT_A_RULE + 256));
     }
 }
@@ -363,9 +371,9 @@ static unsigned may_publish(mqtt_acl_store store, const mqtt_acl_client *c, cons
 
 /* What the header says of a client's life. */
 static void life(void) {
-    static uint8_t bytes[16 + 512 + 326 * 8 + 260 + 260 * 8], opened[sizeof bytes];
+    static uint8_t bytes[16 + 512 + 326 * 8 + 260 + 260 * 8], opened[sizeof bytes], other_bytes[sizeof bytes];
     const mqtt_acl_counts counts = {512, 8, 1, 8};
-    const mqtt_acl_store store = mqtt_acl_store_in(bytes, sizeof bytes);
+    const mqtt_acl_store store = mqtt_acl_store_in(bytes, sizeof bytes), other = mqtt_acl_store_in(other_bytes, sizeof other_bytes);
     const mqtt_acl_client g7 = {{"g7", 2}, {NULL, 0}, {NULL, 0}, {NULL, 0}, 0, 0}, g8 = {{"g8", 2}, {NULL, 0}, {NULL, 0}, {NULL, 0}, 0, 0},
                           wide = {{"+", 1}, {NULL, 0}, {NULL, 0}, {NULL, 0}, 0, 0};
     CHECK(mqtt_acl_tell_open(store, counts, mqtt_acl_string("[\"allow\",\"all\",\"pubsub\",[\"bench/%c/#\"]]")) == 0);
@@ -383,8 +391,18 @@ static void life(void) {
     CHECK(!may_publish(store, &g7, "bench/g7/a") && may_publish(store, &g8, "bench/g8/a"));
     CHECK(mqtt_acl_tell_connected(store, 0, &g8) == 0 && mqtt_acl_tell_disconnected(store, 0, &g8) == 0 && mqtt_acl_tell_ended(store, 0) == 0);
     CHECK(memcmp(bytes, opened, sizeof bytes) == 0);
-    /* An id that widens a rule. */
+    /* It leaves what leaving under a number of its own leaves, and the notes as they were. */
+    CHECK(mqtt_acl_tell_connected(store, 1, &g7) == 0 && mqtt_acl_tell_connected(store, 2, &g8) == 0);
+    memcpy(other_bytes, bytes, sizeof bytes);
+    CHECK(mqtt_acl_tell_connected(store, 0, &g7) == 0 && mqtt_acl_tell_disconnected(store, 0, &g7) == 0 && mqtt_acl_tell_ended(store, 0) == 0);
+    CHECK(mqtt_acl_tell_disconnected(other, 1, &g7) == 0 && memcmp(bytes, other_bytes, sizeof bytes) == 0);
+    /* An id that widens a rule, and an absent name that does. */
+    CHECK(!mqtt_acl_ask_plain_name(wide.id) && mqtt_acl_ask_plain_name(g7.id) && mqtt_acl_ask_plain_name(g7.name));
     CHECK(mqtt_acl_tell_connected(store, 0, &wide) == 0 && may_publish(store, &wide, "bench/g7/a"));
+    const mqtt_acl_client named = {{"g7", 2}, {"bo", 2}, {NULL, 0}, {NULL, 0}, 0, 0};
+    CHECK(mqtt_acl_tell_open(store, counts, mqtt_acl_string("[\"allow\",\"all\",\"pubsub\",[\"bench/%u#\"]]")) == 0);
+    CHECK(mqtt_acl_tell_connected(store, 0, &named) == 0 && !may_publish(store, &named, "bench/g8/a"));
+    CHECK(mqtt_acl_tell_connected(store, 0, &g7) == 0 && may_publish(store, &g7, "bench/g8/a"));
     /* A superuser is judged as anyone once it is in, and a password is asked in every question. */
     mqtt_acl_client bo = {{"g7", 2}, {"bo", 2}, {"pw", 2}, {NULL, 0}, 0, 0};
     CHECK(mqtt_acl_tell_open(store, counts, mqtt_acl_string("[\"allow\",{\"user\":\"bo\",\"password\":\"pw\",\"superuser\":true},\"connect\"]\n"
@@ -392,6 +410,102 @@ static void life(void) {
     CHECK(mqtt_acl_answer_superuser(mqtt_acl_ask_connect(store, FIRST_CONNECT, &bo)) && may_publish(store, &bo, "a") && !may_publish(store, &bo, "b"));
     bo.password = mqtt_acl_absent();
     CHECK(!may_publish(store, &bo, "a"));
+}
+
+/* Every byte, first, in the middle and last in a name, and alone. */
+static void names(void) {
+    for (unsigned b = 0; b < 256; b++) {
+        const unsigned special = b == '+' || b == '#' || b == '/', dollar = b == '$';
+        for (unsigned at = 0; at < 3; at++) {
+            uint8_t name[3] = {'a', 'b', 'c'};
+            name[at] = (uint8_t)b;
+            CHECK(mqtt_acl_plain_name(name, 3) == !(special || (dollar && at == 0)));
+            CHECK(mqtt_acl_ask_plain_name(mqtt_acl_bytes(name, 3)) == mqtt_acl_plain_name(name, 3));
+            CHECK(mqtt_acl_plain_name(name + at, 1) == !(special || dollar));
+        }
+    }
+}
+
+#define TWO_AND_ONE \
+    "[\"allow\",{\"user\":\"%u\"},\"publish\",[\"bench/%c/#\",\"lab/+\",\"%u\"]]\n" \
+    "[\"deny\",\"all\",\"all\",[{\"eq\":\"%c\"},{\"eq\":\"lab\"}]]\n"
+
+static unsigned asks(const char *rules, size_t filters, size_t eqs) {
+    return mqtt_acl_ask_filter_templates(mqtt_acl_string(rules)) == filters && mqtt_acl_ask_eq_templates(mqtt_acl_string(rules)) == eqs;
+}
+
+static void templates(void) {
+    CHECK(asks("", 0, 0) && asks("\n", 0, 0) && asks("[\"allow\",\"all\"]\n", 0, 0));
+    CHECK(asks(TWO_AND_ONE, 2, 1) && asks(TWO_AND_ONE TWO_AND_ONE, 4, 2));
+    CHECK(asks("[\"allow\",\"all\",\"all\",[\"%c%u\",\"%c%u\",{\"eq\":\"%u%u\"}]]", 2, 1));
+    CHECK(asks("[\"allow\",\"all\",\"connect\",[\"\\u0025c\",\"%C\",\"%\",{\"eq\":\"c%\"}]]", 1, 0));
+    /* A line that is no rule has none, and the others keep theirs. */
+    CHECK(asks("[\"perhaps\",\"all\",\"all\",[\"%c\"]]\n[\n" TWO_AND_ONE, 2, 1));
+}
+
+static unsigned uses(mqtt_acl_store store, uint64_t filters, uint64_t eqs, uint64_t notes) {
+    mqtt_acl_rows rows = {99, 99, 99};
+    if (!mqtt_acl_ask_rows(store, &rows)) return 0;
+    const unsigned one = mqtt_acl_used_rows(store.bytes, store.length) == filters + 65536 * eqs + UINT64_C(4294967296) * notes;
+    return one && rows.filters == filters && rows.eqs == eqs && rows.notes == notes;
+}
+
+/* Rows come and go with the events; n times the templates is room for n clients and for no more. */
+static void used(void) {
+    static uint8_t bytes[16 + 512 + 326 * 4 + 260 * 2 + 260 * 4];
+    const mqtt_acl_counts counts = {512, 4, 2, 4};
+    const mqtt_acl_store store = mqtt_acl_store_in(bytes, sizeof bytes);
+    const mqtt_acl_client g7 = {{"g7", 2}, {"bo", 2}, {NULL, 0}, {NULL, 0}, 0, 0}, g8 = {{"g8", 2}, {"cy", 2}, {NULL, 0}, {NULL, 0}, 0, 0},
+                          g9 = {{"g9", 2}, {"di", 2}, {NULL, 0}, {NULL, 0}, 0, 0};
+    CHECK(!uses(store, 0, 0, 0));
+    CHECK(mqtt_acl_tell_open(store, counts, mqtt_acl_string(TWO_AND_ONE)) == 0 && uses(store, 0, 0, 0));
+    CHECK(mqtt_acl_tell_connected(store, 1, &g7) == 0 && uses(store, 2, 1, 2));
+    CHECK(mqtt_acl_tell_connected(store, 1, &g7) == 0 && uses(store, 2, 1, 2));
+    CHECK(mqtt_acl_tell_connected(store, 2, &g8) == 0 && uses(store, 4, 2, 4));
+    CHECK(mqtt_acl_tell_connected(store, 3, &g9) == MQTT_ACL_FILTERS_FULL && uses(store, 4, 2, 4));
+    CHECK(mqtt_acl_tell_disconnected(store, 1, &g7) == 0 && uses(store, 2, 2, 4));
+    CHECK(mqtt_acl_tell_connected(store, 3, &g9) == MQTT_ACL_EQS_FULL && uses(store, 2, 2, 4));
+    CHECK(mqtt_acl_tell_ended(store, 1) == 0 && uses(store, 2, 2, 2));
+    CHECK(mqtt_acl_tell_disconnected(store, 2, &g8) == 0 && mqtt_acl_tell_ended(store, 2) == 0 && uses(store, 0, 2, 0));
+    /* A store of another length, and one with a byte that is not as laid out. */
+    mqtt_acl_rows rows = {7, 8, 9};
+    CHECK(!mqtt_acl_ask_rows(mqtt_acl_store_in(bytes, sizeof bytes - 1), &rows));
+    CHECK(mqtt_acl_used_rows(bytes, 0) == UINT64_MAX && mqtt_acl_used_rows(bytes, 16) == UINT64_MAX);
+    bytes[sizeof bytes - 1] = 1;
+    CHECK(!mqtt_acl_ask_rows(store, &rows) && rows.filters == 7 && rows.eqs == 8 && rows.notes == 9);
+    bytes[sizeof bytes - 1] = 0;
+    CHECK(uses(store, 0, 2, 0));
+}
+
+static void put(uint8_t *at, unsigned number) {
+    at[0] = (uint8_t)(number % 256);
+    at[1] = (uint8_t)(number / 256);
+}
+
+/* The most rows that a store can have, each table full while the others are empty, and all. */
+static void used_most(void) {
+    const mqtt_acl_counts counts = {32, 4096, 4096, 4096};
+    const size_t length = mqtt_acl_store_length(counts);
+    uint8_t *const bytes = (uint8_t *)malloc(length);
+    CHECK(bytes != NULL);
+    const mqtt_acl_store store = mqtt_acl_store_in(bytes, length);
+    for (unsigned full = 0; full < 8; full++) {
+        CHECK(mqtt_acl_tell_open(store, counts, mqtt_acl_string("[\"allow\",\"all\"]")) == 0);
+        uint8_t *row = bytes + 16 + 32;
+        for (unsigned table = 0; table < 3; table++) {
+            const unsigned used_here = full >> table & 1 ? 4096 : 0;
+            for (unsigned i = 0; i < 4096; i++, row += table == 0 ? 326 : 260) {
+                if (i >= used_here) continue;
+                uint8_t *const text = row + (table == 0 ? 6 : 4);
+                put(row + 2, 2);
+                text[0] = (uint8_t)('0' + i / 64);
+                text[1] = (uint8_t)('0' + i % 64);
+            }
+            put(bytes + 10 + 2 * table, used_here);
+        }
+        CHECK(uses(store, full & 1 ? 4096 : 0, full & 2 ? 4096 : 0, full & 4 ? 4096 : 0));
+    }
+    free(bytes);
 }
 
 int main(void) {
@@ -410,6 +524,10 @@ int main(void) {
     clients();
     earlier();
     life();
+    names();
+    templates();
+    used();
+    used_most();
     printf("mqtt_acl.h " MQTT_ACL_VERSION_TEXT ": %lu checks hold\n", checks);
     return 0;
 }

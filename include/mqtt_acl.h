@@ -4,8 +4,9 @@
    are those of the specification, document 01: T is the plugin's tree match, P the per-client rules' plain match. The code is position
    independent: it can be linked into a shared object, as a broker's plugin is one.
 
-   Memory. All of it is the caller's. A text, and a store, crosses as its address and its length in bytes, without a zero byte at the
-   end. Nothing is kept after a call: no heap, no state between calls, no threads. A text is only read; a store is written by
+   Memory. All of it is the caller's, but the stack: a call takes at most 21,232 bytes of it (24 KB will do; bench/stack measures it and
+   bounds it from the machine code, no proof does). A text, and a store, crosses as its address and its length in bytes, without a zero
+   byte at the end. Nothing is kept after a call: no heap, no state between calls, no threads. A text is only read; a store is written by
    mqtt_acl_open and by the three events, and by nothing else. Calls that only read a store may run at the same time; one that writes it
    runs alone.
 
@@ -41,18 +42,25 @@
      new one is then refused and the old one stays, tell connected for it again.
    - A will is published after the connection is lost: ask it before disconnected is told, since its rows are gone afterwards.
    - Sessions are 0 to 255. One number can serve all clients, however many: a client enters by connected and ended, and leaves by
-     connected, disconnected and ended, one client at a time. Connected then finds its rows there, adds none and makes the notes anew,
-     by which disconnected finds what to clear. Proved (LeavesAlike of crates/hosting/specs/Claims.antt): where nothing is refused and
-     the number has no note before, the filter rows that stay are those that would stay under a number of its own, and no note is left.
+     connected, disconnected and ended, one client at a time, with the name by which it entered. Connected then finds its rows there, adds
+     none and makes the notes anew, by which disconnected finds what to clear. Proved (LeavesAlike of crates/hosting/specs/Claims.antt):
+     if the notes of a session of the client's own are exactly the filter templates filled for it, and the shared number has no notes,
+     then leaving so leaves the filter rows that disconnected under its own number leaves, and the notes as they were before. This is of
+     events that are not refused: where connected is, as by 10 for want of room for the notes, disconnected clears nothing.
    - The superuser flag of an allowed connect is handed back to the caller and not looked at afterwards: subscribe and publish judge a
      superuser as anyone. (Per-client questions do look at theirs.)
    - A rule that asks for a password asks in every question: keep the password as long as the client is there, or its rule agrees at
      connect and never again. The same holds for the address and the protocol.
    - An id or a name that holds `+`, `#` or `/`, or begins with `$`, widens rules: `bench/%c/#` filled with the id `+` is `bench/+/#`.
-     Refuse such ids at CONNECT where rules have %c or %u. Others leave a template's levels and wildcards as they are (PlainFills).
-   - How large: each client adds at most a filter row and a note for each filter of the rules with %c or %u, and an eq row for each such
-     eq name (Enough); with one session number N holds the notes of one client. Each call checks the whole store, unused rows too: tables
-     of 4,096 empty rows cost on every question.
+     mqtt_acl_plain_name tells those that don't: refuse others at CONNECT where rules have %c or %u. Proved (PlainFills there): where
+     neither id nor name holds one of the three characters, a filled template has those that it had unfilled, in number and in order. The
+     empty text is plain, and an absent name fills as an empty one: `bench/%u#`, no valid filter with a name, is then `bench/#`.
+   - How large: R is the length of the rule text or more. A template is a topic with %c or %u; say that the rules have f templates that are
+     filters (mqtt_acl_filter_templates) and e under eq (mqtt_acl_eq_templates). Each is filled into one text, whoever the client is, and
+     a connected adds at most f filter rows, e eq rows and f notes: both are proved (FilledOnce, Enough there). So for n clients F is n
+     times f, E n times e and N n times f, or f where one session number serves all, and none of them below 1. Eq rows never leave: for
+     E, n is every client that came since the store was opened. mqtt_acl_used_rows tells how many rows are used now. Calls check the
+     whole store, unused rows too: tables of 4,096 empty rows cost on every question.
    - New rules without losing rows: open a second store, tell it connected for everyone present, and take it in place of the first if
      nothing was refused. examples/c/reload.c does it.
 
@@ -198,6 +206,22 @@ uint32_t mqtt_acl_publish(const uint8_t *store, size_t store_length, uint64_t ea
                           uint8_t has_name, const uint8_t *name, size_t name_length, uint8_t has_password, const uint8_t *password,
                           size_t password_length, uint8_t has_address, const uint8_t *address, size_t address_length,
                           uint8_t has_protocol, uint8_t protocol, const uint8_t *topic, size_t topic_length, uint8_t disconnect);
+
+/* ---- For a host: plain names, the templates of rules, used rows ---- */
+
+/* Is the id, or the name, plain: without `+`, `#` and `/`, and not begun by `$`? The empty text is. 1 or 0. Reads the text. */
+uint8_t mqtt_acl_plain_name(const uint8_t *name, size_t name_length);
+
+/* The filters of a rule text with %c or %u, in all its rules: a connected adds at most so many filter rows, and as many notes. A line
+   that is no rule has none. Reads the text. */
+size_t mqtt_acl_filter_templates(const uint8_t *rules, size_t rules_length);
+
+/* The eq names of a rule text with %c or %u: a connected adds at most so many eq rows. Reads the text. */
+size_t mqtt_acl_eq_templates(const uint8_t *rules, size_t rules_length);
+
+/* The used rows of a store: its filter rows, plus 65,536 times its eq rows, plus 4,294,967,296 times its notes (mqtt_acl_ask_rows takes
+   them apart); UINT64_MAX where it is not as laid out. Reads the store. */
+uint64_t mqtt_acl_used_rows(const uint8_t *store, size_t store_length);
 
 /* ---- The rules that came with a client's credentials ---- */
 
@@ -366,6 +390,11 @@ typedef struct mqtt_acl_counts {
     uint64_t bytes, filters, eqs, notes;
 } mqtt_acl_counts;
 
+/* The rows of each table that are used: mqtt_acl_ask_rows. */
+typedef struct mqtt_acl_rows {
+    uint64_t filters, eqs, notes;
+} mqtt_acl_rows;
+
 /* The length of a store with these counts; 0 where one is out of range. */
 static inline size_t mqtt_acl_store_length(mqtt_acl_counts c) {
     if (c.bytes < 1 || c.bytes > 32768 || c.filters < 1 || c.filters > 4096 || c.eqs < 1 || c.eqs > 4096 || c.notes < 1 || c.notes > 4096)
@@ -459,6 +488,31 @@ static inline uint32_t mqtt_acl_ask_publish(mqtt_acl_store store, enum mqtt_acl_
                             mqtt_acl_address(c->password), mqtt_acl_length(c->password), mqtt_acl_given(c->address),
                             mqtt_acl_address(c->address), mqtt_acl_length(c->address), c->has_protocol, c->protocol,
                             mqtt_acl_address(topic), mqtt_acl_length(topic), disconnect);
+}
+
+/* mqtt_acl_plain_name. */
+static inline uint8_t mqtt_acl_ask_plain_name(mqtt_acl_text name) {
+    return mqtt_acl_plain_name(mqtt_acl_address(name), mqtt_acl_length(name));
+}
+
+/* mqtt_acl_filter_templates. */
+static inline size_t mqtt_acl_ask_filter_templates(mqtt_acl_text rules) {
+    return mqtt_acl_filter_templates(mqtt_acl_address(rules), mqtt_acl_length(rules));
+}
+
+/* mqtt_acl_eq_templates. */
+static inline size_t mqtt_acl_ask_eq_templates(mqtt_acl_text rules) {
+    return mqtt_acl_eq_templates(mqtt_acl_address(rules), mqtt_acl_length(rules));
+}
+
+/* mqtt_acl_used_rows: 1, and the three counts; 0 where the store is not as laid out, and `rows` is as it was. */
+static inline uint8_t mqtt_acl_ask_rows(mqtt_acl_store store, mqtt_acl_rows *rows) {
+    const uint64_t used = mqtt_acl_used_rows(store.bytes, mqtt_acl_lent(store));
+    if (used == UINT64_MAX) return 0;
+    rows->filters = used % 65536;
+    rows->eqs = used / 65536 % 65536;
+    rows->notes = used / 65536 / 65536;
+    return 1;
 }
 
 /* mqtt_acl_client_subscribe. */
