@@ -10,11 +10,13 @@
 //! - [`AuthInfo`]: the rules that came with one client's credentials; [`expired`].
 //! - [`valid_filter`], [`tree_match`] (T, the plugin's), [`plain_match`] (P, the per-client rules').
 //! - [`check_rule`], [`identity`], [`is_document`], [`is_document_within`]: one line.
+//! - [`plain_name`], [`templates`], [`Store::used_rows`]: which ids to refuse, how large to make the tables, how
+//!   full they are.
 //!
-//! Texts are bytes, of any content. No call allocates but [`Store::open`], and none keeps what it is lent. A
-//! refusal is an `Err` with document 01's number, and then nothing has changed. No call panics, whatever it
-//! is given; only a number that is no answer does, which the library is proved not to give. An empty slice
-//! may be lent everywhere: nothing is read from its address.
+//! Texts are bytes, of any content. No call allocates but [`Store::open`], and none keeps what it is lent; on the
+//! stack 24 KB will do. A refusal is an `Err` with document 01's number, and then nothing has changed. No call
+//! panics, whatever it is given; only a number that is no answer does, which the library is proved not to give. An
+//! empty slice may be lent everywhere: nothing is read from its address.
 //!
 //! ```
 //! use mqtt_acl::{Client, Connect, Counts, Earlier, EarlierConnect, Publish, Store};
@@ -55,6 +57,7 @@ struct Readme;
 
 mod answers;
 mod authinfo;
+mod host;
 mod line;
 mod store;
 #[allow(unsafe_code)]
@@ -65,6 +68,7 @@ pub use answers::{
     Refusal, Subscribe,
 };
 pub use authinfo::{expired, AuthInfo, Time};
+pub use host::{plain_name, templates, Rows, Templates};
 pub use line::{
     check_rule, identity, is_document, is_document_within, plain_match, tree_match, valid_filter,
 };

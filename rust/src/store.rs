@@ -3,6 +3,7 @@
 use std::fmt;
 
 use crate::answers::{self, Connect, Earlier, EarlierConnect, LineRefusal, Publish, Refusal, Subscribe};
+use crate::host::Rows;
 use crate::sys;
 
 /// R, F, E, N: the bytes for the rule text and the rows that each table has room for, all in range.
@@ -129,6 +130,11 @@ impl Store {
     /// Event: a session has ended. Its notes go. Refused by 2, 3.
     pub fn ended(&mut self, session: u64) -> Result<(), Refusal> {
         answers::done(sys::ended(&mut self.bytes, session))
+    }
+
+    /// How many rows of each table are used; none where the store is not as laid out.
+    pub fn used_rows(&self) -> Option<Rows> {
+        Rows::of(sys::used_rows(&self.bytes))
     }
 
     /// May the client connect? Refused by 1, 2, 3.

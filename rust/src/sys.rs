@@ -134,6 +134,10 @@ mod exported {
             topic_length: usize,
             disconnect: u8,
         ) -> u32;
+        pub fn mqtt_acl_plain_name(name: *const u8, name_length: usize) -> u8;
+        pub fn mqtt_acl_filter_templates(rules: *const u8, rules_length: usize) -> usize;
+        pub fn mqtt_acl_eq_templates(rules: *const u8, rules_length: usize) -> usize;
+        pub fn mqtt_acl_used_rows(store: *const u8, store_length: usize) -> u64;
         pub fn mqtt_acl_client_subscribe(
             superuser: u8,
             id: *const u8,
@@ -397,6 +401,26 @@ pub(crate) fn publish(
     }
 }
 
+pub(crate) fn plain_name(name: &[u8]) -> bool {
+    // SAFETY: see the module; the function only reads.
+    unsafe { exported::mqtt_acl_plain_name(name.as_ptr(), name.len()) != 0 }
+}
+
+pub(crate) fn filter_templates(rules: &[u8]) -> usize {
+    // SAFETY: see the module; the function only reads.
+    unsafe { exported::mqtt_acl_filter_templates(rules.as_ptr(), rules.len()) }
+}
+
+pub(crate) fn eq_templates(rules: &[u8]) -> usize {
+    // SAFETY: see the module; the function only reads.
+    unsafe { exported::mqtt_acl_eq_templates(rules.as_ptr(), rules.len()) }
+}
+
+pub(crate) fn used_rows(store: &[u8]) -> u64 {
+    // SAFETY: see the module; the function only reads.
+    unsafe { exported::mqtt_acl_used_rows(store.as_ptr(), store.len()) }
+}
+
 pub(crate) fn client_subscribe(owner: AuthInfo<'_>, topic: &[u8], qos: u64) -> u64 {
     let (has_name, name, name_length) = lent(owner.name);
     // SAFETY: see the module; the function only reads.
@@ -519,6 +543,9 @@ mod tests {
             assert_eq!(mqtt_acl_connect(n, 0, 0, n, 0, 1, n, 0, 1, n, 0, 1, n, 0, 0), three);
             assert_eq!(mqtt_acl_subscribe(n, 0, 0, n, 0, 1, n, 0, 1, n, 0, 1, n, 0, 1, 0, n, 0, 0), three);
             assert_eq!(mqtt_acl_publish(n, 0, 0, n, 0, 1, n, 0, 1, n, 0, 1, n, 0, 1, 0, n, 0, 1), three);
+            assert_eq!(mqtt_acl_plain_name(n, 0), 1);
+            assert_eq!((mqtt_acl_filter_templates(n, 0), mqtt_acl_eq_templates(n, 0)), (0, 0));
+            assert_eq!(mqtt_acl_used_rows(n, 0), u64::MAX);
             assert_eq!(mqtt_acl_client_subscribe(0, n, 0, 1, n, 0, n, 0, n, 0, 0), 12);
             assert_eq!(mqtt_acl_client_publish(1, n, 0, 1, n, 0, n, 0, n, 0, 0, 1, 1), 7);
         }

@@ -1,9 +1,9 @@
 //! Document 01's example, limits and refusals, through the crate's public calls.
 
 use mqtt_acl::{
-    check_rule, expired, identity, is_document, is_document_within, plain_match, tree_match, valid_filter,
-    version, AuthInfo, Client, ClientPublish, ClientSubscribe, Connect, Counts, Earlier, EarlierConnect,
-    Identity, LineRefusal, Publish, Refusal, Store, Subscribe, Time,
+    check_rule, expired, identity, is_document, is_document_within, plain_match, plain_name, templates,
+    tree_match, valid_filter, version, AuthInfo, Client, ClientPublish, ClientSubscribe, Connect, Counts,
+    Earlier, EarlierConnect, Identity, LineRefusal, Publish, Refusal, Store, Subscribe, Time,
 };
 
 const EXAMPLE: &[u8] = br#"["allow",{"user":"bo"},"publish",["bench/%c/set"]]
@@ -379,6 +379,75 @@ fn expiry() {
     assert_eq!(expired(Some(time(9, 5)), time(9, 4)), Ok(false));
     assert_eq!(expired(Some(time(9, 999_999_999)), time(10, 0)), Ok(true));
     assert_eq!(expired(Some(time(u64::MAX, 0)), time(0, 0)), Ok(false));
+}
+
+/// Every byte, first, in the middle and last in a name, and alone.
+#[test]
+fn plain_names() {
+    assert!(plain_name(b""));
+    for b in 0..=255u8 {
+        let special = b"+#/".contains(&b);
+        assert_eq!(plain_name(&[b]), !special && b != b'$', "{b}");
+        assert_eq!(plain_name(&[b, b'b', b'c']), !special && b != b'$', "{b}");
+        assert_eq!(plain_name(&[b'a', b, b'c']), !special, "{b}");
+        assert_eq!(plain_name(&[b'a', b'b', b]), !special, "{b}");
+    }
+}
+
+/// Two filter templates and one under eq.
+const TWO_AND_ONE: &[u8] = br##"["allow",{"user":"%u"},"publish",["bench/%c/#","lab/+","%u"]]
+["deny","all","all",[{"eq":"%c"},{"eq":"lab"}]]
+"##;
+
+#[test]
+fn templates_of_a_text() {
+    let asks = |rules: &[u8]| (templates(rules).filters, templates(rules).eqs);
+    assert_eq!(asks(b""), (0, 0));
+    assert_eq!(asks(br#"["allow","all","all",["a",{"eq":"b"}]]"#), (0, 0));
+    assert_eq!(asks(TWO_AND_ONE), (2, 1));
+    assert_eq!(asks(&TWO_AND_ONE.repeat(9)), (18, 9));
+    assert_eq!(asks(&[b"[\n[\"perhaps\",\"all\",\"all\",[\"%c\"]]\n", TWO_AND_ONE].concat()), (2, 1));
+}
+
+/// Rows come and go with the events; n times the templates is room for n clients and for no more.
+#[test]
+fn used_rows() {
+    let (clients, asks) = (2, templates(TWO_AND_ONE));
+    let counts =
+        Counts::new(512, clients * asks.filters, clients * asks.eqs, clients * asks.filters).unwrap();
+    let mut store = Store::open(counts, TWO_AND_ONE).unwrap();
+    let used = |store: &Store| store.used_rows().map(|rows| (rows.filters, rows.eqs, rows.notes));
+    assert_eq!(used(&store), Some((0, 0, 0)));
+    assert_eq!(store.connected(1, b"g7", Some(b"bo")), Ok(()));
+    assert_eq!(used(&store), Some((2, 1, 2)));
+    assert_eq!(store.connected(2, b"g8", Some(b"cy")), Ok(()));
+    assert_eq!(used(&store), Some((4, 2, 4)));
+    assert_eq!(store.connected(3, b"g9", Some(b"di")), Err(Refusal::FiltersFull));
+    assert_eq!(store.disconnected(1, b"g7"), Ok(()));
+    assert_eq!(used(&store), Some((2, 2, 4)));
+    assert_eq!(store.ended(1), Ok(()));
+    assert_eq!(used(&store), Some((2, 2, 2)));
+
+    let whole = store.into_bytes();
+    assert_eq!(Store::from_bytes(whole[1..].to_vec()).used_rows(), None);
+    assert_eq!(Store::from_bytes(Vec::new()).used_rows(), None);
+    let damaged = whole.iter().map(|byte| byte ^ 1).collect();
+    assert_eq!(Store::from_bytes(damaged).used_rows(), None);
+    assert_eq!(used(&Store::from_bytes(whole)), Some((2, 2, 2)));
+}
+
+/// Leaving under a session number that all share leaves what leaving under one of its own does.
+#[test]
+fn leaves_alike() {
+    let mut own = opened(TWO_AND_ONE);
+    assert_eq!(own.connected(1, b"g7", Some(b"bo")), Ok(()));
+    assert_eq!(own.connected(2, b"g8", Some(b"cy")), Ok(()));
+    let mut shared = own.clone();
+    assert_eq!(own.disconnected(1, b"g7"), Ok(()));
+    assert_eq!(shared.connected(0, b"g7", Some(b"bo")), Ok(()));
+    assert_eq!(shared.disconnected(0, b"g7"), Ok(()));
+    assert_eq!(shared.ended(0), Ok(()));
+    assert_eq!(own, shared);
 }
 
 #[test]
