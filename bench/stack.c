@@ -109,6 +109,10 @@ static void c_subscribe(void) {
 static void c_publish(void) {
     sink = mqtt_acl_publish(store, length, earlier, T(id), OPTIONAL(name), OPTIONAL(password), OPTIONAL(address), 1, 4, T(topic), 1);
 }
+static void c_plain_name(void) { sink = mqtt_acl_plain_name(T(id)); }
+static void c_filter_templates(void) { sink = mqtt_acl_filter_templates(T(text)); }
+static void c_eq_templates(void) { sink = mqtt_acl_eq_templates(T(text)); }
+static void c_used_rows(void) { sink = mqtt_acl_used_rows(store, length); }
 static void c_client_subscribe(void) { sink = mqtt_acl_client_subscribe(0, T(id), OPTIONAL(name), T(client_rules), T(topic), qos); }
 static void c_client_publish(void) { sink = mqtt_acl_client_publish(0, T(id), OPTIONAL(name), T(client_rules), T(topic), qos, 1, 1); }
 static void c_expired(void) { sink = mqtt_acl_expired(1, 5, 6, 5, 7); }
@@ -139,12 +143,14 @@ static struct {
     {"open", c_open, 0},                   {"connected", c_connected, 0},
     {"disconnected", c_disconnected, 0},   {"ended", c_ended, 0},
     {"connect", c_connect, 0},             {"subscribe", c_subscribe, 0},
-    {"publish", c_publish, 0},             {"client_subscribe", c_client_subscribe, 0},
+    {"publish", c_publish, 0},             {"plain_name", c_plain_name, 0},
+    {"filter_templates", c_filter_templates, 0}, {"eq_templates", c_eq_templates, 0},
+    {"used_rows", c_used_rows, 0},         {"client_subscribe", c_client_subscribe, 0},
     {"client_publish", c_client_publish, 0}, {"expired", c_expired, 0},
     {"answer_*", c_answer, 0},
 };
 enum { VALID, TREE, PLAIN, DOCUMENT, WITHIN, REFUSAL, IDENTITY, OPEN, CONNECTED, DISCONNECTED, ENDED, CONNECT, SUBSCRIBE, PUBLISH,
-       CLIENT_SUBSCRIBE, CLIENT_PUBLISH, EXPIRED, ANSWER };
+       PLAIN_NAME, FILTER_TEMPLATES, EQ_TEMPLATES, USED_ROWS, CLIENT_SUBSCRIBE, CLIENT_PUBLISH, EXPIRED, ANSWER };
 
 static void try(int first, int last) {
     for (int i = first; i <= last; i++) {
@@ -239,14 +245,14 @@ int main(void) {
                 make(32768, sizes[s], alike, 2);
                 if (sizes[s] == 4096) {
                     id = "g"; name = "bo"; topic = "a/g"; password = "p"; address = "1.2.3.4"; qos = session = earlier = 0;
-                    try(OPEN, PUBLISH);
-                } else asking(OPEN, PUBLISH);
+                    try(OPEN, USED_ROWS);
+                } else asking(OPEN, USED_ROWS);
             }
     }
     text[0] = 0;
     for (int i = 0; i < 256; i++) strcat(text, "[\"allow\",\"all\",\"\\u0061ll\",[\"\\u0061/b\",\"%c\",{\"eq\":\"%u\"}]]\n");
     make(32768, 64, 0, 256);
-    asking(OPEN, PUBLISH);
+    asking(OPEN, USED_ROWS);
     strcat(text, "[]\n");
     asking(OPEN, OPEN);
     for (size_t r = 0; r < sizeof own / sizeof *own; r++) {

@@ -4,7 +4,7 @@
    are those of the specification, document 01: T is the plugin's tree match, P the per-client rules' plain match. The code is position
    independent: it can be linked into a shared object, as a broker's plugin is one.
 
-   Memory. All of it is the caller's, but the stack: a call takes at most 21,232 bytes of it (24 KB will do; bench/stack measures it and
+   Memory. All of it is the caller's, but the stack: a call takes at most 21,280 bytes of it (24 KB will do; bench/stack measures it and
    bounds it from the machine code, no proof does). A text, and a store, crosses as its address and its length in bytes, without a zero
    byte at the end. Nothing is kept after a call: no heap, no state between calls, no threads. A text is only read; a store is written by
    mqtt_acl_open and by the three events, and by nothing else. Calls that only read a store may run at the same time; one that writes it
