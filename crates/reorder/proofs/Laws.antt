@@ -4,14 +4,82 @@ use native.Mathlib.Omega.{arith}
 use native.Mathlib.Numerals.{add-one}
 use mathlib.Core.Path.{_≡_, refl, sym, ap, _∙_}
 use mathlib.Core.Bool.{Bool, true, false, _&&_, _||_, not, cond}
-use mathlib.Core.List.{List, [], _∷_}
+use mathlib.Core.List.{List, [], _∷_, _++_, append-assoc, append-nil}
 use lib.Dec.{eqb, leb, ltb}
-use lib.ListN.{length, getD, drop, drop-of-length-le}
-use lib.Seq.{drop-cons}
+use lib.ListN.{length, getD, take, drop, set, length-set, drop-of-length-le}
+use lib.Seq.{drop-cons, take-suc-set, take-all}
 use borrow.Author.Tests.{eq-eqb, ne-eqb, lt-ltb, le-ltb, le-leb, lt-leb}
 use Rattle.reorder.specs.declared.listing.Event.{Event}
-use Rattle.reorder.specs.Listing.{listed, session, client}
-use Rattle.reorder.specs.Running.{differ, sameRefused, share, keepsOne, fits, keeps}
+use Rattle.store.specs.View.{view}
+use Rattle.events.specs.Event as happens
+use Rattle.acl.specs.Demand3.{run}
+use Rattle.reorder.specs.Listing.{listed, session, client, meant, recorded}
+use Rattle.reorder.specs.Running.{eventsOf, recordsOf, differ, sameRefused, share, keepsOne, fits, keeps}
+
+-- ---- a run
+
+events-at : (order : List ℕ) (i : ℕ) → i < length order → eventsOf (drop i order) ≡ meant (listed (getD order i 0)) ∷ eventsOf (drop (i + 1) order)
+unfolding eventsOf
+events-at order i h = rw (add-one, drop-cons order i 0 h)
+
+run-one : (e : happens.Event) (es : List happens.Event) (s : List ℕ) → run (e ∷ es) s ≡ run es (happens.after e s)
+unfolding run
+run-one e es s = refl
+
+records-one : (e : happens.Event) (es : List happens.Event) (s : List ℕ) → recordsOf (e ∷ es) s ≡ recorded (happens.cause e (view s)) ∷ recordsOf es (happens.after e s)
+unfolding recordsOf
+records-one e es s = refl
+
+run-none : (s : List ℕ) → run (eventsOf []) s ≡ s
+unfolding run eventsOf
+run-none s = refl
+
+records-none : (s : List ℕ) → recordsOf (eventsOf []) s ≡ []
+unfolding recordsOf eventsOf
+records-none s = refl
+
+-- the state of a loop that runs an order on a store, which was `before`: `i` events are passed, and their answers recorded
+pub record Running (order before store records : List ℕ) (i : ℕ) : Type 0 where
+  pub room : length records ≡ length order
+  pub stores : run (eventsOf (drop i order)) store ≡ run (eventsOf order) before
+  pub answers : (take i records ++ recordsOf (eventsOf (drop i order)) store) ≡ recordsOf (eventsOf order) before
+
+pub running-none : (order before records : List ℕ) → length records ≡ length order → Running order before before records 0
+running-none order before records h = record { room = h; stores = refl; answers = refl }
+
+module _ {order before store records : List ℕ} {i : ℕ} (w : Running order before store records i) where
+  pub running-more :
+      {store₁ : List ℕ} {n : ℕ} →
+      i < length order →
+      store₁ ≡ happens.after (meant (listed (getD order i 0))) store →
+      n ≡ recorded (happens.cause (meant (listed (getD order i 0))) (view store)) →
+      Running order before store₁ (set records i n) (i + 1)
+  running-more h p q =
+      let e : happens.Event = meant (listed (getD order i 0)) in
+      let rest : List happens.Event = eventsOf (drop (i + 1) order) in
+      let left : List ℕ = recordsOf rest (happens.after e store) in
+      let n₁ : ℕ = recorded (happens.cause e (view store)) in
+      let fits : i < length records = omega (arith, w .room) in
+      let one : (take (i + 1) (set records i n₁) ++ left) ≡ take i records ++ (n₁ ∷ left) = rw (add-one i, take-suc-set records i n₁ fits, append-assoc) in
+      rw (p, q)
+      (record {
+        room = simp length-set (w .room);
+        stores = sym (run-one e rest store) ∙ (sym (ap (λ (es : List happens.Event). run es store) (events-at order i h)) ∙ w .stores);
+        answers =
+            one
+            ∙ (ap (λ (l : List ℕ). take i records ++ l) (sym (records-one e rest store))
+            ∙ (sym (ap (λ (es : List happens.Event). take i records ++ recordsOf es store) (events-at order i h)) ∙ w .answers));
+      })
+
+  pub running-end : length order ≤ i → (store ≡ run (eventsOf order) before) × (records ≡ recordsOf (eventsOf order) before)
+  running-end h =
+      let none-left = drop-of-length-le order {i = i} h in
+      let all : length records ≤ i = omega (arith, w .room) in (
+        sym (run-none store) ∙ (sym (ap (λ (l : List ℕ). run (eventsOf l) store) none-left) ∙ w .stores),
+        sym (append-nil (take i records) ∙ take-all i records all)
+            ∙ (ap (λ (l : List ℕ). take i records ++ l) (sym (records-none store))
+            ∙ (sym (ap (λ (l : List ℕ). take i records ++ recordsOf (eventsOf l) store) none-left) ∙ w .answers)),
+      )
 
 -- ---- the answers of two runs
 

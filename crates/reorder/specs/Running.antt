@@ -4,7 +4,19 @@ use mathlib.Core.Bool.{Bool, true, false, _&&_, _||_, not, cond}
 use mathlib.Core.List.{List, [], _∷_}
 use lib.Dec.{eqb, leb, ltb}
 use Rattle.reorder.specs.declared.listing.Event.{Event}
-use Rattle.reorder.specs.Listing.{listed, session, client}
+use Rattle.reorder.specs.Listing.{listed, session, client, meant, recorded}
+use Rattle.store.specs.View.{view}
+use Rattle.events.specs.Event as happens
+
+-- the events of an order of numbers
+unfoldable pub eventsOf : List ℕ → List happens.Event
+eventsOf [] = []
+eventsOf (n ∷ order) = meant (listed n) ∷ eventsOf order
+
+-- what is recorded of a run
+unfoldable pub recordsOf : List happens.Event → List ℕ → List ℕ
+recordsOf [] s = []
+recordsOf (e ∷ es) s = recorded (happens.cause e (view s)) ∷ recordsOf es (happens.after e s)
 
 -- is one of the two answers done, 0, and the other a refusal?
 unfoldable pub differ : ℕ → ℕ → Bool

@@ -2,6 +2,7 @@
 use crate::LENGTH;
 use crate::saying::say;
 use crate::saying::say_number;
+use acl::ConnectAnswer;
 use acl::Given;
 use acl::Protocol;
 use acl::PublishAnswer;
@@ -29,6 +30,22 @@ fn refuse(rule: usize, flag: bool) -> Answer {
     }
     Answer {
         case: b'r',
+        number: rule as u64,
+        more: 0,
+    }
+}
+
+// An allowed connect, with the superuser flag or without.
+fn allow(rule: usize, superuser: bool) -> Answer {
+    if superuser {
+        return Answer {
+            case: b's',
+            number: rule as u64,
+            more: 1,
+        };
+    }
+    Answer {
+        case: b'a',
         number: rule as u64,
         more: 0,
     }
@@ -82,12 +99,35 @@ fn of_subscribe(answer: SubscribeAnswer) -> Answer {
     }
 }
 
+// The answer to a connect.
+fn of_connect(answer: ConnectAnswer) -> Answer {
+    match answer {
+        ConnectAnswer::Kept(code) => Answer {
+            case: b'k',
+            number: code,
+            more: 0,
+        },
+        ConnectAnswer::Allow(rule, superuser) => allow(rule, superuser),
+        ConnectAnswer::Refuse(rule) => Answer {
+            case: b'r',
+            number: rule as u64,
+            more: 0,
+        },
+        ConnectAnswer::Refused(cause) => Answer {
+            case: b'e',
+            number: refusal_number(cause) as u64,
+            more: 0,
+        },
+    }
+}
+
 // Writes the case of an answer and its number.
 fn show(answer: Answer) {
     let case = answer.case;
     match case {
         b'k' => say(b"kept"),
         b'a' => say(b"allow"),
+        b's' => say(b"super"),
         b'r' => say(b"refuse"),
         b'd' => say(b"drop"),
         _ => say(b"error"),
@@ -130,6 +170,22 @@ fn question(word: &[u8], id: &[u8], names: &[u8], topic: &[u8]) {
     say(topic);
 }
 
+// A store's answer to a connect.
+fn connect(store: &[u8; LENGTH], id: &[u8], name: Given, names: &[u8]) -> Answer {
+    of_connect(acl::connect(
+        store,
+        0,
+        id,
+        name,
+        names,
+        Given::Absent,
+        b"",
+        Given::Absent,
+        b"",
+        4,
+    ))
+}
+
 // A store's answer to a publish, with the disconnect flag.
 fn publish(store: &[u8; LENGTH], id: &[u8], name: Given, names: &[u8], topic: &[u8]) -> Answer {
     of_publish(acl::publish(
@@ -166,6 +222,13 @@ fn subscribe(store: &[u8; LENGTH], id: &[u8], name: Given, names: &[u8], topic: 
     ))
 }
 
+// May a client connect, by the one store and by the other?
+fn connects(a: &[u8; LENGTH], b: &[u8; LENGTH], id: &[u8], names: &[u8]) -> bool {
+    let name = given(names);
+    question(b"connect ", id, b"", names);
+    side_by_side(connect(a, id, name, names), connect(b, id, name, names))
+}
+
 // May a client publish to this topic, by the one store and by the other?
 fn publishes(a: &[u8; LENGTH], b: &[u8; LENGTH], id: &[u8], names: &[u8], topic: &[u8]) -> bool {
     let name = given(names);
@@ -184,6 +247,15 @@ fn subscribes(a: &[u8; LENGTH], b: &[u8; LENGTH], id: &[u8], names: &[u8], topic
         subscribe(a, id, name, names, topic),
         subscribe(b, id, name, names, topic),
     )
+}
+
+// Connects by each client. Are all answers the same?
+fn all_connects(a: &[u8; LENGTH], b: &[u8; LENGTH]) -> bool {
+    let mut same = connects(a, b, b"g1", b"ann");
+    same = connects(a, b, b"g1", b"bo") & same;
+    same = connects(a, b, b"g2", b"bo") & same;
+    same = connects(a, b, b"g4", b"cy") & same;
+    connects(a, b, &LONG, b"bo") & same
 }
 
 // Publishes by each client. Are all answers the same?
@@ -213,6 +285,7 @@ fn all_subscribes(a: &[u8; LENGTH], b: &[u8; LENGTH]) -> bool {
 
 // All questions. Are all answers the same?
 pub(crate) fn ask_all(a: &[u8; LENGTH], b: &[u8; LENGTH]) -> bool {
+    let connected = all_connects(a, b);
     let published = all_publishes(a, b);
-    all_subscribes(a, b) & published
+    all_subscribes(a, b) & published & connected
 }

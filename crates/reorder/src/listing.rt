@@ -1,12 +1,11 @@
-// The list of events, and what happens when one is handed to a store.
+// The list of events, and what each does to a store. Nothing is written here: crate::telling does that afterwards.
 use crate::LENGTH;
-use crate::saying::part;
-use crate::saying::say;
-use crate::saying::say_number;
 use acl::EventAnswer;
 use acl::Given;
 use rule::refusal_number;
 ghost use mathlib.Core.Path.{_≡_};
+ghost use Rattle.store.specs.View.{view};
+ghost use Rattle.events.specs.Event as event;
 ghost use Rattle.reorder.specs.Listing as spec;
 
 // A session; the client by the digit of its id, `x` for the id that is too long; and the initial of the user name, `-` for none.
@@ -17,7 +16,7 @@ pub enum Event {
 }
 
 // A byte more than document 01 allows for a client id.
-const LONG: usize = 65;
+pub const LONG: usize = 65;
 
 // The event of a number.
 pub fn listed(n: u8) -> Event
@@ -64,82 +63,64 @@ pub fn client(e: Event) -> u8
     }
 }
 
-// Writes a client's id to the buffer, and answers its length.
-fn write_id(id: &mut [u8; LONG], client: u8) -> usize {
-    if client == b'x' {
-        return LONG;
-    }
-    id[0] = b'g';
-    id[1] = client;
-    2
-}
-
-// The first bytes of the buffer, as an id.
-fn id_of(buffer: &[u8; LONG], length: usize) -> &[u8] {
-    part(buffer, 0, length)
-}
-
-// The number of document 01 for an answer, 0 for done; written behind the event.
-fn told(answer: EventAnswer) -> u64 {
+// What is recorded of an answer: 0 for done, else the number of the refusal.
+fn number_of(answer: EventAnswer) -> u8
+    ensures { λ r. ⌜ r ≡ spec.recorded (event.says answer) ⌝ }
+{
     match answer {
-        EventAnswer::Done => {
-            say(b": done\n");
-            0
-        }
-        EventAnswer::Refused(cause) => {
-            let n = refusal_number(cause) as u64;
-            say_number(b": error ", n);
-            say(b"\n");
-            n
-        }
+        EventAnswer::Done => 0,
+        EventAnswer::Refused(cause) => refusal_number(cause),
     }
-}
-
-// A client connects, under a name.
-fn named(store: &mut [u8; LENGTH], s: u64, id: &[u8], name: &[u8]) -> EventAnswer {
-    say(b" ");
-    say(name);
-    acl::connected(store, s, id, Given::Length(name.len()), name)
 }
 
 // A client connects, under the name of this initial.
-fn connects(store: &mut [u8; LENGTH], s: u64, id: &[u8], name: u8) -> EventAnswer {
-    say_number(b"connected ", s);
-    say(b" ");
-    say(id);
+fn named(store: &mut [u8; LENGTH], s: u64, id: &[u8], name: u8) -> EventAnswer
+    ensures { λ r. ⌜ event.says r ≡ event.cause (event.connected s (now (id .entry)) (spec.nameOf name)) (view (now (store .entry))) ⌝ }
+    ensures { λ r. ⌜ now (store .exit) ≡ event.after (event.connected s (now (id .entry)) (spec.nameOf name)) (now (store .entry)) ⌝ }
+{
     match name {
-        b'a' => named(store, s, id, b"ann"),
-        b'b' => named(store, s, id, b"bo"),
-        b'c' => named(store, s, id, b"cy"),
+        b'a' => acl::connected(store, s, id, Given::Length(3), b"ann"),
+        b'b' => acl::connected(store, s, id, Given::Length(2), b"bo"),
+        b'c' => acl::connected(store, s, id, Given::Length(2), b"cy"),
         _ => acl::connected(store, s, id, Given::Absent, b""),
     }
 }
 
+// A client connects.
+fn connects(store: &mut [u8; LENGTH], s: u64, client: u8, name: u8) -> EventAnswer
+    ensures { λ r. ⌜ event.says r ≡ event.cause (event.connected s (spec.idOf client) (spec.nameOf name)) (view (now (store .entry))) ⌝ }
+    ensures { λ r. ⌜ now (store .exit) ≡ event.after (event.connected s (spec.idOf client) (spec.nameOf name)) (now (store .entry)) ⌝ }
+{
+    if client == b'x' {
+        let long = [b'x'; LONG];
+        return named(store, s, &long, name);
+    }
+    let id = [b'g', client];
+    named(store, s, &id, name)
+}
+
 // A client disconnects.
-fn disconnects(store: &mut [u8; LENGTH], s: u64, id: &[u8]) -> EventAnswer {
-    say_number(b"disconnected ", s);
-    say(b" ");
-    say(id);
-    acl::disconnected(store, s, id)
+fn disconnects(store: &mut [u8; LENGTH], s: u64, client: u8) -> EventAnswer
+    ensures { λ r. ⌜ event.says r ≡ event.cause (event.disconnected s (spec.idOf client)) (view (now (store .entry))) ⌝ }
+    ensures { λ r. ⌜ now (store .exit) ≡ event.after (event.disconnected s (spec.idOf client)) (now (store .entry)) ⌝ }
+{
+    if client == b'x' {
+        let long = [b'x'; LONG];
+        return acl::disconnected(store, s, &long);
+    }
+    let id = [b'g', client];
+    acl::disconnected(store, s, &id)
 }
 
-// A session ends.
-fn ends(store: &mut [u8; LENGTH], s: u64) -> EventAnswer {
-    say_number(b"ended ", s);
-    acl::ended(store, s)
-}
-
-// Hands the event of a number to the store, and writes it with its answer: 0 done, else the number of the refusal.
-pub(crate) fn happen(store: &mut [u8; LENGTH], n: u8) -> u64 {
-    let mut buffer = [b'x'; LONG];
+// Hands the event of a number to the store, and answers what is recorded of it.
+pub fn apply(store: &mut [u8; LENGTH], n: u8) -> u8
+    ensures { λ r. ⌜ r ≡ spec.recorded (event.cause (spec.meant (spec.listed n)) (view (now (store .entry)))) ⌝ }
+    ensures { λ r. ⌜ now (store .exit) ≡ event.after (spec.meant (spec.listed n)) (now (store .entry)) ⌝ }
+{
     let e = listed(n);
-    let length = write_id(&mut buffer, client(e));
-    let id = id_of(&buffer, length);
-    say_number(b"", n as u64);
-    say(b" ");
     match e {
-        Event::Connected(s, _, name) => told(connects(store, s, id, name)),
-        Event::Disconnected(s, _) => told(disconnects(store, s, id)),
-        Event::Ended(s) => told(ends(store, s)),
+        Event::Connected(s, client, name) => number_of(connects(store, s, client, name)),
+        Event::Disconnected(s, client) => number_of(disconnects(store, s, client)),
+        Event::Ended(s) => number_of(acl::ended(store, s)),
     }
 }

@@ -3,7 +3,8 @@ use crate::LENGTH;
 use crate::listing;
 use crate::listing::listed;
 ghost use mathlib.Core.Path.{_≡_};
-ghost use lib.ListN.{drop};
+ghost use lib.ListN.{length, drop};
+ghost use Rattle.acl.specs.Demand3 as demand;
 ghost use Rattle.reorder.specs.Listing as events;
 ghost use Rattle.reorder.specs.Running as spec;
 
@@ -12,23 +13,27 @@ pub const EVENTS: usize = 15;
 // An answer for each event at its number; the first is of none.
 pub const ANSWERS: usize = 16;
 
-// Keeps the answer of an event at its number.
-fn keep(answers: &mut [u64; ANSWERS], n: u8, answer: u64) {
-    let at = n as usize;
-    if at < ANSWERS {
-        answers[at] = answer;
+// Hands the events of this order to the store, each getting it as the one before left it, and records their answers.
+fn run_all(store: &mut [u8; LENGTH], order: &[u8], records: &mut [u8])
+    requires { ⌜ length (now records) ≡ length (now order) ⌝ }
+    ensures { λ r. ⌜ now (store .exit) ≡ demand.run (spec.eventsOf (now (order .entry))) (now (store .entry)) ⌝ }
+    ensures { λ r. ⌜ now (records .exit) ≡ spec.recordsOf (spec.eventsOf (now (order .entry))) (now (store .entry)) ⌝ }
+{
+    let mut i = 0;
+    while i < order.len() {
+        let n = order[i];
+        let recorded = listing::apply(store, n);
+        records[i] = recorded;
+        i += 1;
     }
 }
 
-// Hands the events to the store in this order, and keeps their answers.
-pub(crate) fn run(store: &mut [u8; LENGTH], order: &[u8; EVENTS], answers: &mut [u64; ANSWERS]) {
-    let mut i = 0;
-    while i < EVENTS {
-        let n = order[i];
-        let answer = listing::happen(store, n);
-        keep(answers, n, answer);
-        i += 1;
-    }
+// The same, of as many events as are listed.
+pub fn run(store: &mut [u8; LENGTH], order: &[u8; EVENTS], records: &mut [u8; EVENTS])
+    ensures { λ r. ⌜ now (store .exit) ≡ demand.run (spec.eventsOf (now (order .entry))) (now (store .entry)) ⌝ }
+    ensures { λ r. ⌜ now (records .exit) ≡ spec.recordsOf (spec.eventsOf (now (order .entry))) (now (store .entry)) ⌝ }
+{
+    run_all(store, order, records);
 }
 
 // Is one of the two answers done, and the other a refusal?

@@ -1,16 +1,15 @@
--- `reorder::running::run` meets its contract. The loop's invariant: `i` is at most 15. The measure is what is left of the order.
--- Assumes nothing.
+-- The loop's invariant: `i` is at most 15. The measure is what is left of the order. Assumes nothing.
 use Prim.Native.Nat.{_-_, _≤_}
 use native.Mathlib.Omega.{arith}
 use borrow.Author.Needs.{needs}
-use Rattle.reorder.proofs.running.run.Statement.{statement}
-use Rattle.reorder.proofs.running.run.Tie as tie
+use Rattle.reorder.proofs.telling.tell_all.Statement.{statement}
+use Rattle.reorder.proofs.telling.tell_all.Tie as tie
 
 abbrev Inv-loop : tie.InvT-loop
-Inv-loop store₀ order answers₀ i₀ store answers i = i ≤ 15
+Inv-loop order records answers₀ i₀ answers i = i ≤ 15
 
 abbrev μ-loop : tie.MeasureT-loop
-μ-loop store₀ order answers₀ i₀ store answers i = 15 - i
+μ-loop order records answers₀ i₀ answers i = 15 - i
 
 loop-holds : tie.Need-loop-holds Inv-loop μ-loop
 loop-holds c = omega arith
@@ -18,8 +17,11 @@ loop-holds c = omega arith
 element-copy-out-n : tie.Need-element-copy-out-n Inv-loop μ-loop
 element-copy-out-n c = omega arith
 
-happen-requires : tie.Need-happen-requires Inv-loop μ-loop
-happen-requires c κs = search needs
+element-copy-out-recorded : tie.Need-element-copy-out-recorded Inv-loop μ-loop
+element-copy-out-recorded c = omega arith
+
+tell-requires : tie.Need-tell-requires Inv-loop μ-loop
+tell-requires c κs = search needs
 
 keep-requires : tie.Need-keep-requires Inv-loop μ-loop
 keep-requires c κs = search needs
@@ -36,15 +38,16 @@ loop-again c = omega arith
 returns : tie.Need-returns Inv-loop μ-loop
 returns c = search needs
 
-pub run-spec : {M : Type 1} → statement M
-run-spec =
+pub tell-all-spec : {M : Type 1} → statement M
+tell-all-spec =
     tie.close
     (tie.spec
     Inv-loop
     μ-loop
     loop-holds
     element-copy-out-n
-    happen-requires
+    element-copy-out-recorded
+    tell-requires
     keep-requires
     add-i
     loop-less
