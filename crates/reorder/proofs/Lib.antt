@@ -1,2 +1,3 @@
 pub mod Laws
 pub mod Shares
+pub mod Outcomes
