@@ -3,7 +3,7 @@ use Prim.Native.Nat.{ℕ, zero, suc, _+_, _-_, _≤_, _<_}
 use native.Mathlib.Numerals.{add-one}
 use native.Mathlib.Omega.{arith}
 use mathlib.Core.Path.{_≡_, refl, sym, ap, _∙_}
-use mathlib.Core.Bool.{Bool, true, false, _&&_, _||_, not, cond, Bool·beq, true≢false, and-false, or-false}
+use mathlib.Core.Bool.{Bool, true, false, _&&_, _||_, not, cond, Bool·beq, true≢false, and-true, and-false, or-true}
 use mathlib.Core.List.{List, [], _∷_, _++_, map, List·Memᴰ}
 use mathlib.Core.Option.{Option, none, some, bind}
 use borrow.Author.Tests.{eq-eqb, ne-eqb, eqb-true, ltb-false}
@@ -14,11 +14,11 @@ use denote.Enum.Declared.{tagOf}
 use types.Run.{OneOf, miss}
 use Rattle.text.specs.Ascii.{ascii}
 use Rattle.text.specs.Text.{same, begins, occurs, replaceFrom, replace}
-use Rattle.text.proofs.Laws.{and-split, or-split, isnt, same-true, same-itself, begins-take, begins-length}
+use Rattle.text.proofs.Laws.{and-split, or-split, isnt, same-itself, begins-take}
 use Rattle.topic.specs.Topic.{Level, plus, hash, levels, isOnly, isPlus, isHash, metadata, ends, passes, behind, takes, dollarRule, treeLevels, levelsIf, checkedLevels, treeMatch, validFilter}
 use Rattle.topic.specs.declared.Passed.the-variants.{Onward, Answer}
-use Rattle.table.specs.Table.{some-row, keep, add, add-all, adds, drops, change}
-use Rattle.table.proofs.TableLaws.{some-append, some-keep, some-map, some-on, present, none as none-rows, none-of, length-keep, new, stays, some-change}
+use Rattle.table.specs.Table.{some-row, keep, add, add-all, adds, change}
+use Rattle.table.proofs.TableLaws.{Equals, some-keep, some-map, some-on, present, none as none-rows, none-at, none-of, member, length-keep, new, stays, some-change}
 use Rattle.json.specs.Lines.{lines, lineAt, nextLine}
 use Rattle.json.specs.declared.Place.{Place}
 use Rattle.json.specs.declared.Place.the-variants.{At, Nowhere}
@@ -34,10 +34,10 @@ use Rattle.rule.proofs.Topic as topic
 use Rattle.rule.specs.RuleText.{Filled, readRule, ruleOn, rulesOf, listed, filledTopics, filledRules, filled, ofKind}
 use Rattle.store.specs.Store.{over, View, FilterRow, EqRow, NoteRow, same-filter, same-eq, same-note}
 use Rattle.store.specs.View.{view}
-use Rattle.store.proofs.LayoutLaws.{filter-rows, note-rows, well-formed-parts, openable-parts}
+use Rattle.store.proofs.LayoutLaws.{filter-rows, eq-rows, note-rows, well-formed-parts, openable-parts}
 use Rattle.store.proofs.ViewLaws.{view-well-formed}
 use Rattle.store.proofs.OpenLaws.{fit-range}
-use Rattle.events.specs.Event.{connected, disconnected, ended, filledFilters, filledEqs, filterRows, eqRows, noteRows, ofSession, clears, cleared, filterChange, newEqs, noteChange, effect}
+use Rattle.events.specs.Event.{filledFilters, filledEqs, filterRows, eqRows, noteRows, ofSession, clears, cleared, filterChange, newEqs, noteChange, effect}
 use Rattle.events.specs.Templates.{firstTopic, nextTopic, ifTemplate, templateAt, filledTemplate, filledFrom}
 use Rattle.events.proofs.TemplateWalk.{walk-line, walk-topic, walk-end, walk-out}
 use Rattle.hosting.specs.Walk.{countOf}
@@ -47,8 +47,8 @@ use Rattle.store.specs.declared.ShapeRead.{ShapeRead}
 use Rattle.store.specs.declared.ShapeRead.the-variants.{LaidOut, Malformed as MalformedShape}
 use Rattle.hosting.specs.declared.Templates.{Templates}
 use Rattle.hosting.specs.declared.Used.the-variants.{Rows, Malformed}
-use Rattle.hosting.specs.Hosting.{isSpecial, noSpecial, plainName, templatesIn, templatesOf, lineTemplates, templates, usedIn}
-use Rattle.hosting.specs.Claims.{PlainFills, FilledOnce, Adds, Enough, leave, NotesOf, Leaves, LeavesAlike}
+use Rattle.hosting.specs.Hosting.{isSpecial, noSpecial, templatesIn, templatesOf, lineTemplates, templates, usedIn}
+use Rattle.hosting.specs.Claims.{PlainFills, FilledOnce, Enough, TakesBack, enter, leave, Entered, EntersAlike, LeavesAlike}
 
 -- ---- plain names
 
@@ -122,14 +122,15 @@ module _ {Row : Type 0} (p : Row → Bool) where
       at true q = refl
       at false q = keep-last rows r q
 
--- each that passes the one test passes the other together with itself
-none-alone : {Row : Type 0} (val : Row → Bool) (R : Row → Row → Bool) → ((r : Row) → val r ≡ true → R r r ≡ true) → (rows : List Row)
-    → some-row (λ r. not (some-row (R r) rows) && val r) rows ≡ false
-none-alone {Row} val R itself rows = none-rows rows (λ r m. by r m (val r) refl)
+-- rows that are all there: none is added
+adds-none : {Row : Type 0} (same-row : Row → Row → Bool) (new rows : List Row) → some-row (λ r. not (some-row (same-row r) rows)) new ≡ false → add-all same-row new rows ≡ rows
+unfolding add-all add some-row
+adds-none same-row [] rows e = refl
+adds-none same-row (r ∷ new) rows e = let h = or-split (not (some-row (same-row r) rows)) _ e in at (some-row (same-row r) rows) (h .0) (adds-none same-row new rows (h .1))
   where
-    by : (r : Row) → List·Memᴰ r rows → (b : Bool) → val r ≡ b → (not (some-row (R r) rows) && b) ≡ false
-    by r m true q = ap (λ (b : Bool). not b && true) (present (R r) m (itself r q))
-    by r m false q = and-false (not (some-row (R r) rows))
+    at : (b : Bool) → not b ≡ false → add-all same-row new rows ≡ rows → add-all same-row new (cond b rows (rows ++ (r ∷ []))) ≡ rows
+    at true q below = below
+    at false q below = absurd (true≢false q)
 
 -- ---- filling
 
@@ -428,49 +429,115 @@ tree-itself filter h = rw (h, takes-itself (levels filter), no-dollar (levels fi
 abbrev clearing : List ℕ → Filled → Bool
 clearing filter f = validFilter (f .text) && treeMatch filter (f .text)
 
--- the notes made again clear what the filled texts clear
-made-clear : (shared : ℕ) (text id : List ℕ) (name : Option (List ℕ)) (notes : List NoteRow) → some-row (ofSession shared) notes ≡ false → (filter : List ℕ)
-    → some-row (clears shared filter) (add-all same-note (noteRows shared text id name) notes) ≡ some-row (clearing filter) (filledFilters text id name)
-unfolding change new stays clears ofSession noteRows
-made-clear shared text id name notes unused filter =
-    some-change note-rows (clears shared filter) (adds (noteRows shared text id name)) notes
-    ∙ (ap (λ (b : Bool). b || some-row (clears shared filter) (noteRows shared text id name)) (none-of notes (λ n e. rw e refl) unused)
-    ∙ (some-map (clears shared filter) (λ (f : Filled). record { session = shared; text = f .text }) (filledFilters text id name)
-    ∙ some-on (filledFilters text id name) (λ f m. rw (eq-eqb shared shared refl) refl)))
+some-add-all : {Row : Type 0} {same-row : Row → Row → Bool} → Equals same-row → (p : Row → Bool) (new rows : List Row) → some-row p (add-all same-row new rows) ≡ (some-row p rows || some-row p new)
+unfolding change new stays
+some-add-all E p new rows = some-change E p (adds new) rows ∙ ap (λ (b : Bool). b || some-row p new) (some-on rows (λ r m. and-true (p r)))
 
--- each row of the client's own clears by its own note
-own-clear : (shared : ℕ) (text id : List ℕ) (name : Option (List ℕ)) (notes : List NoteRow) → some-row (ofSession shared) notes ≡ false
-    → some-row (λ r. not (cleared shared id (add-all same-note (noteRows shared text id name) notes) r)) (filterRows text id name) ≡ false
-unfolding cleared filterRows
-own-clear shared text id name notes unused =
-    some-map (λ r. not (cleared shared id (add-all same-note (noteRows shared text id name) notes) r)) (λ (f : Filled). record { rule = f .rule; text = f .text; owner = id })
-    (keep (λ f. validFilter (f .text)) (filledFilters text id name))
-    ∙ (some-keep (λ (f : Filled). not (same id id && some-row (clears shared (f .text)) (add-all same-note (noteRows shared text id name) notes))) (λ f. validFilter (f .text)) (filledFilters text id name)
-    ∙ (some-on (filledFilters text id name) (λ f m. ap (λ (b : Bool). not b && validFilter (f .text)) (inner f))
-    ∙ none-alone (λ (f : Filled). validFilter (f .text)) (λ f. clearing (f .text)) (λ f h. rw (h, tree-itself (f .text) h) refl) (filledFilters text id name)))
+-- the session's notes, once those of the filled texts are made
+module _ (session : ℕ) (text id : List ℕ) (name : Option (List ℕ)) (notes : List NoteRow) where
+  made : (p : List ℕ → Bool)
+      → some-row (λ n. ofSession session n && p (n .text)) (add-all same-note (noteRows session text id name) notes)
+      ≡ (some-row (λ n. ofSession session n && p (n .text)) notes || some-row (λ (f : Filled). p (f .text)) (filledFilters text id name))
+  unfolding ofSession noteRows
+  made p =
+      some-add-all note-rows (λ n. ofSession session n && p (n .text)) (noteRows session text id name) notes
+      ∙ ap (λ (b : Bool). some-row (λ n. ofSession session n && p (n .text)) notes || b)
+      (some-map (λ n. ofSession session n && p (n .text)) (λ (f : Filled). record { session = session; text = f .text }) (filledFilters text id name)
+      ∙ some-on (filledFilters text id name) (λ f m. rw (eq-eqb session session refl) refl))
+
+  made-alone : some-row (ofSession session) notes ≡ false → (p : List ℕ → Bool)
+      → some-row (λ n. ofSession session n && p (n .text)) (add-all same-note (noteRows session text id name) notes)
+      ≡ some-row (λ (f : Filled). p (f .text)) (filledFilters text id name)
+  made-alone unused p =
+      made p ∙ ap (λ (b : Bool). b || some-row (λ (f : Filled). p (f .text)) (filledFilters text id name)) (none-of notes (λ n e. rw e refl) unused)
+
+  -- each row of the client's clears by its own note
+  own-clear : some-row (λ r. not (cleared session id (add-all same-note (noteRows session text id name) notes) r)) (filterRows text id name) ≡ false
+  unfolding cleared clears filterRows
+  own-clear =
+      some-map (λ r. not (cleared session id (add-all same-note (noteRows session text id name) notes) r)) (λ (f : Filled). record { rule = f .rule; text = f .text; owner = id })
+      (keep (λ f. validFilter (f .text)) (filledFilters text id name))
+      ∙ (some-keep (λ (f : Filled). not (same id id && some-row (clears session (f .text)) (add-all same-note (noteRows session text id name) notes))) (λ f. validFilter (f .text)) (filledFilters text id name)
+      ∙ none-rows (filledFilters text id name) (λ f m. at f m (validFilter (f .text)) refl))
+    where
+      by-itself : (f : Filled) → List·Memᴰ f (filledFilters text id name) → validFilter (f .text) ≡ true
+          → some-row (clears session (f .text)) (add-all same-note (noteRows session text id name) notes) ≡ true
+      by-itself f m q =
+          made (λ t. validFilter t && treeMatch (f .text) t)
+          ∙ (ap (λ (b : Bool). some-row (clears session (f .text)) notes || b) (present (clearing (f .text)) m (rw (q, tree-itself (f .text) q) refl)) ∙ or-true (some-row (clears session (f .text)) notes))
+
+      at : (f : Filled) → List·Memᴰ f (filledFilters text id name) → (b : Bool) → validFilter (f .text) ≡ b
+          → (not (same id id && some-row (clears session (f .text)) (add-all same-note (noteRows session text id name) notes)) && b) ≡ false
+      at f m true q = rw (same-itself id, by-itself f m q) refl
+      at f m false q = and-false (not (same id id && some-row (clears session (f .text)) (add-all same-note (noteRows session text id name) notes)))
+
+pub takes-back : TakesBack
+unfolding effect filterChange noteChange newEqs change add-all
+takes-back v session id name =
+    let notes = add-all same-note (noteRows session (v .text) id name) (v .notes) in
+    let rows = add-all same-filter (filterRows (v .text) id name) (v .filters) in
+    let mine : FilterRow → Bool = λ r. some-row (same-filter r) (filterRows (v .text) id name) in
+    some-keep mine (λ r. not (cleared session id notes r)) rows ∙ none-rows rows (λ r m. at r (mine r) refl)
   where
-    inner : (f : Filled) → (same id id && some-row (clears shared (f .text)) (add-all same-note (noteRows shared text id name) notes)) ≡ some-row (clearing (f .text)) (filledFilters text id name)
-    inner f = rw (same-itself id) (made-clear shared text id name notes unused (f .text))
+    at : (r : FilterRow) (b : Bool) → some-row (same-filter r) (filterRows (v .text) id name) ≡ b
+        → (b && not (cleared session id (add-all same-note (noteRows session (v .text) id name) (v .notes)) r)) ≡ false
+    at r true q =
+        none-at (λ r. not (cleared session id (add-all same-note (noteRows session (v .text) id name) (v .notes)) r)) (own-clear session (v .text) id name (v .notes))
+        (member filter-rows r (filterRows (v .text) id name) q)
+    at r false q = refl
+
+pub entered : Entered
+unfolding effect filterChange noteChange newEqs change
+entered v own id name unused = (
+  made-alone own (v .text) id name (v .notes) unused,
+  adds-none same-eq (eqRows (v .text) id name) (add-all same-eq (eqRows (v .text) id name) (v .eqs)) (none-rows (eqRows (v .text) id name) (λ r m. ap not (there r m))),
+)
+  where
+    there : (r : EqRow) → List·Memᴰ r (eqRows (v .text) id name) → some-row (same-eq r) (add-all same-eq (eqRows (v .text) id name) (v .eqs)) ≡ true
+    there r m =
+        some-add-all eq-rows (same-eq r) (eqRows (v .text) id name) (v .eqs)
+        ∙ (ap (λ (b : Bool). some-row (same-eq r) (v .eqs) || b) (present (same-eq r) m (eq-rows .itself r)) ∙ or-true (some-row (same-eq r) (v .eqs)))
+
+-- the notes of a shared number that come and go
+notes-gone : (shared : ℕ) (text id : List ℕ) (name : Option (List ℕ)) (notes : List NoteRow) → some-row (ofSession shared) notes ≡ false
+    → keep (λ n. not (ofSession shared n)) (add-all same-note (noteRows shared text id name) notes) ≡ notes
+unfolding ofSession noteRows
+notes-gone shared text id name notes unused =
+    keep-adds (λ n. not (ofSession shared n)) same-note (noteRows shared text id name) notes made-shared
+    ∙ keep-all (λ n. not (ofSession shared n)) notes (none-of notes (λ n e. rw e refl) unused)
+  where
+    made-shared : some-row (λ n. not (ofSession shared n)) (noteRows shared text id name) ≡ false
+    made-shared =
+        some-map (λ n. not (ofSession shared n)) (λ (f : Filled). record { session = shared; text = f .text }) (filledFilters text id name)
+        ∙ none-rows (filledFilters text id name) (λ f m. rw (eq-eqb shared shared refl) refl)
+
+pub enters-alike : EntersAlike
+unfolding enter effect filterChange noteChange newEqs change add-all
+enters-alike v w own shared id name alike unused = (
+  record {
+    text = alike .text;
+    filters = λ i. add-all same-filter (filterRows (alike .text i) id name) (alike .filters i);
+    eqs = λ i. add-all same-eq (eqRows (alike .text i) id name) (alike .eqs i);
+  },
+  notes-gone shared (w .text) id name (w .notes) unused,
+)
 
 pub leaves-alike : LeavesAlike
-unfolding leave effect filterChange noteChange newEqs change add-all clears cleared ofSession noteRows
-leaves-alike v own shared id name notes-are unused =
-    record {
-      filters =
-          keep-adds (λ r. not (cleared shared id (add-all same-note (noteRows shared (v .text) id name) (v .notes)) r)) same-filter (filterRows (v .text) id name) (v .filters)
-          (own-clear shared (v .text) id name (v .notes) unused)
-          ∙ ap (λ (p : FilterRow → Bool). keep p (v .filters)) (λ i r. not (same (r .owner) id && alike (r .text) i));
-      notes =
-          keep-adds (λ n. not (ofSession shared n)) same-note (noteRows shared (v .text) id name) (v .notes) made-shared
-          ∙ keep-all (λ n. not (ofSession shared n)) (v .notes) (none-of (v .notes) (λ n e. rw e refl) unused);
-    }
+unfolding leave effect filterChange noteChange newEqs change add-all clears cleared
+leaves-alike v w own shared id name alike unused notes-are eqs-there = (
+  record {
+    text = alike .text;
+    filters =
+        keep-adds (λ r. not (cleared shared id (add-all same-note (noteRows shared (w .text) id name) (w .notes)) r)) same-filter (filterRows (w .text) id name) (w .filters)
+        (own-clear shared (w .text) id name (w .notes))
+        ∙ (λ i. keep (λ r. not (same (r .owner) id && clear-alike (r .text) i)) (alike .filters i));
+    eqs = (λ i. add-all same-eq (eqRows (alike .text i) id name) (alike .eqs i)) ∙ eqs-there;
+  },
+  notes-gone shared (w .text) id name (w .notes) unused,
+)
   where
-    alike : (filter : List ℕ)
-        → some-row (clears shared filter) (add-all same-note (noteRows shared (v .text) id name) (v .notes)) ≡ some-row (clears own filter) (v .notes)
-    alike filter =
-        made-clear shared (v .text) id name (v .notes) unused filter ∙ sym (notes-are (λ t. validFilter t && treeMatch filter t))
-
-    made-shared : some-row (λ n. not (ofSession shared n)) (noteRows shared (v .text) id name) ≡ false
-    made-shared =
-        some-map (λ n. not (ofSession shared n)) (λ (f : Filled). record { session = shared; text = f .text }) (filledFilters (v .text) id name)
-        ∙ none-rows (filledFilters (v .text) id name) (λ f m. rw (eq-eqb shared shared refl) refl)
+    clear-alike : (filter : List ℕ)
+        → some-row (clears shared filter) (add-all same-note (noteRows shared (w .text) id name) (w .notes)) ≡ some-row (clears own filter) (v .notes)
+    clear-alike filter =
+        made-alone shared (w .text) id name (w .notes) unused (λ t. validFilter t && treeMatch filter t)
+        ∙ (ap (λ (text : List ℕ). some-row (clearing filter) (filledFilters text id name)) (alike .text) ∙ sym (notes-are (λ t. validFilter t && treeMatch filter t)))
