@@ -23,7 +23,8 @@ use Rattle.events.specs.Event.{connected, cause}
 use Rattle.acl.specs.Decide.{counts, bo}
 
 -- T and P of a filter and a checked text; a template filled with a client id and a user name; a rule's protocol. Then lengths, each with
--- the number of the refusal, 0 where it passes: a string of a rule; a text that connected fills; the topic of a subscribe and a publish
+-- the number of the refusal, 0 where it passes: a string of a rule, a member's name too; a text that connected fills, under `eq` too; the
+-- topic of a subscribe and a publish. (A client's own rules have their list in crates/authinfo.)
 pub data Example : Type 0 where
   T : String → String → Bool → Example
   P : String → String → Bool → Example
@@ -36,13 +37,27 @@ pub data Example : Type 0 where
 abbrev pub letters : ℕ → List ℕ
 letters n = replicate n 0x61
 
--- a rule with one topic
+-- a rule with one topic, with one under `eq`, and one whose users have a member of this name
 abbrev pub ruleFor : List ℕ → List ℕ
 ruleFor topic = ascii "[\"allow\",\"all\",\"all\",[\"" ++ (topic ++ ascii "\"]]")
 
--- a store as Open leaves it for these rules, with the counts of `decide`
+abbrev pub eqRuleFor : List ℕ → List ℕ
+eqRuleFor topic = ascii "[\"allow\",\"all\",\"all\",[{\"eq\":\"" ++ (topic ++ ascii "\"}]]")
+
+abbrev pub memberRule : List ℕ → List ℕ
+memberRule name = ascii "[\"allow\",{\"" ++ (name ++ ascii "\":0}]")
+
+-- what a store means as Open leaves it for these rules, with the counts of `decide`; none where they are refused
 abbrev pub openedFor : List ℕ → Option View
 openedFor rules = cond (openable counts rules) (some (opened counts rules)) none
+
+-- a template that has n bytes once it is filled for an id of 64 bytes and no name: two more after the first replacement
+abbrev pub filledTo : ℕ → List ℕ
+filledTo n = letters (n - 64) ++ ascii "%c%u"
+
+-- the cause of a refusal where such a client connects
+abbrev pub connectedBy : List ℕ → Option ℕ
+connectedBy rules = cause (connected 1 (letters 64) none) (openedFor rules)
 
 abbrev pub protocolIs : Result Rule → ℕ → Bool
 protocolIs (refused cause) n = false
@@ -66,9 +81,8 @@ holds (T filter text yes-or-no) = Bool·beq (treeMatch (ascii filter) (ascii tex
 holds (P filter text yes-or-no) = Bool·beq (plainMatch (ascii filter) (ascii text)) yes-or-no
 holds (Fills template id name result) = same (fill (ascii template) (ascii id) (some (ascii name))) (ascii result)
 holds (Protocol line n) = protocolIs (readRule (ascii line)) n
-holds (Decoded n refusal) = eqb (ofRule (readRule (ruleFor (letters n)))) refusal
--- the client id has 64 bytes
-holds (FilledTo n refusal) = eqb (ofEvent (cause (connected 1 (letters 64) none) (openedFor (ruleFor (letters (n - 64) ++ ascii "%c"))))) refusal
+holds (Decoded n refusal) = eqb (ofRule (readRule (ruleFor (letters n)))) refusal && eqb (ofRule (readRule (memberRule (letters n)))) refusal
+holds (FilledTo n refusal) = eqb (ofEvent (connectedBy (ruleFor (filledTo n)))) refusal && eqb (ofEvent (connectedBy (eqRuleFor (filledTo n)))) refusal
 holds (Asked n refusal) =
     eqb (ofReply (askView (subscribe 0 bo (letters n) 0) (openedFor []))) refusal
     && eqb (ofReply (askView (publish 0 bo (letters n) true) (openedFor []))) refusal
@@ -77,10 +91,12 @@ abbrev pub all-hold : List Example → Bool
 all-hold [] = true
 all-hold (e ∷ es) = holds e && all-hold es
 
--- zero levels are those of a text that is no valid filter, as `a#`
+-- zero levels are those of a text that is no valid filter, as `$a#`: with a first level, `$` would stop `#`; `#` alone takes them
 abbrev pub examples : List Example
 examples =
     T "#" "a#" true ∷
+    T "#" "$a#" true ∷
+    T "+" "a#" false ∷
     T "#" "$SYS/a" false ∷
     T "a/#" "a/$b" true ∷
     P "a/#" "a/$b" false ∷

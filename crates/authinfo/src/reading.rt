@@ -62,6 +62,7 @@ fn qos_list(line: &[u8], first: Place, asked: u64) -> QosRead
 {
     let mut takes = false;
     let mut next = first;
+    // How many elements may still come: each takes a byte of the line at least, so none is lost when this runs out.
     let mut turns = line.len();
     while turns > 0 {
         let Place::At(p) = next else {

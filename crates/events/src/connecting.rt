@@ -120,6 +120,7 @@ fn push_all(
     let mut at = 0;
     while at < text_end - Counts::HEADER {
         let mut next = first_topic(&store[Counts::HEADER..text_end], at);
+        // How many topics may still come: each takes a byte of the text at least, so none is lost when this runs out.
         let mut turns = text_end;
         while turns > 0 {
             match next {
@@ -174,6 +175,7 @@ fn over_filled(rules: &[u8], id: &[u8], name: Given, names: &[u8]) -> bool
     let mut at = 0;
     while at < rules.len() {
         let mut next = first_topic(rules, at);
+        // How many topics may still come, as in `push_all`.
         let mut turns = rules.len();
         while turns > 0 {
             match next {

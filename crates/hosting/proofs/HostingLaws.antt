@@ -18,7 +18,7 @@ use Rattle.text.proofs.Laws.{and-split, or-split, isnt, same-itself, begins-tak
 use Rattle.topic.specs.Topic.{Level, plus, hash, levels, isOnly, isPlus, isHash, metadata, ends, passes, behind, takes, dollarRule, treeLevels, levelsIf, checkedLevels, treeMatch, validFilter}
 use Rattle.topic.specs.declared.Passed.the-variants.{Onward, Answer}
 use Rattle.table.specs.Table.{some-row, keep, add, add-all, adds, change}
-use Rattle.table.proofs.TableLaws.{Equals, some-keep, some-map, some-on, present, none as none-rows, none-at, none-of, member, length-keep, new, stays, some-change}
+use Rattle.table.proofs.TableLaws.{some-keep, some-map, some-on, present, none as none-rows, none-at, none-of, member, length-keep, some-add-all}
 use Rattle.json.specs.Lines.{lines, lineAt, nextLine}
 use Rattle.json.specs.declared.Place.{Place}
 use Rattle.json.specs.declared.Place.the-variants.{At, Nowhere}
@@ -428,10 +428,6 @@ tree-itself filter h = rw (h, takes-itself (levels filter), no-dollar (levels fi
 -- of filled texts, those that clear a filter
 abbrev clearing : List ℕ → Filled → Bool
 clearing filter f = validFilter (f .text) && treeMatch filter (f .text)
-
-some-add-all : {Row : Type 0} {same-row : Row → Row → Bool} → Equals same-row → (p : Row → Bool) (new rows : List Row) → some-row p (add-all same-row new rows) ≡ (some-row p rows || some-row p new)
-unfolding change new stays
-some-add-all E p new rows = some-change E p (adds new) rows ∙ ap (λ (b : Bool). b || some-row p new) (some-on rows (λ r m. and-true (p r)))
 
 -- the session's notes, once those of the filled texts are made
 module _ (session : ℕ) (text id : List ℕ) (name : Option (List ℕ)) (notes : List NoteRow) where

@@ -127,6 +127,7 @@ fn are_topics(line: &[u8], first: Place) -> bool
     ensures { λ r. ⌜ r ≡ spec.areTopics (now (line .entry)) first ⌝ }
 {
     let mut next = first;
+    // How many elements may still come: each takes a byte of the line at least, so none is lost when this runs out.
     let mut turns = line.len();
     while turns > 0 {
         match next {

@@ -159,7 +159,7 @@ module _ {Row : Type 0} {same : Row → Row → Bool} (E : Equals same) where
       at true e = absorb (some-row p rows) (p r) (present p (member r rows e))
       at false e = rw (some-append p rows (r ∷ []), or-false)
 
-  some-add-all : (p : Row → Bool) (new rows : List Row) → some-row p (add-all same new rows) ≡ (some-row p rows || some-row p new)
+  pub some-add-all : (p : Row → Bool) (new rows : List Row) → some-row p (add-all same new rows) ≡ (some-row p rows || some-row p new)
   unfolding add-all some-row
   some-add-all p [] rows = sym (or-false (some-row p rows))
   some-add-all p (r ∷ new) rows = rw (some-add-all p new (add same r rows), some-add p r rows, or-assoc)

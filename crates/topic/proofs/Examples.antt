@@ -60,6 +60,8 @@ mqtt-47-examples =
     T "Accounts payable" "Accounts payable" true ∷
     T "/finance" "finance" false ∷
     T "finance" "/finance" false ∷
+    T "finance/" "finance" false ∷
+    T "finance" "finance/" false ∷
     Valid "/" true ∷
     T "/" "/" true ∷
     P "sport/#" "sport" true ∷
@@ -85,22 +87,13 @@ nowhere c (b ∷ text) e (suc i) a = nowhere c text (and-eq-true-iff (not (eqb b
 characters : (text : List ℕ) → leb 1 (length text) ≡ true → lacks 0 text ≡ true → Characters text
 characters text e n = record { some-character = leb-true 1 (length text) e; no-null = nowhere 0 text n }
 
--- the names and the filters of the two statements
-sport : Name (ascii "sport")
-sport =
-    record {
-      characters = characters (ascii "sport") refl refl;
-      no-multi = nowhere multi (ascii "sport") refl;
-      no-single = nowhere single (ascii "sport") refl;
-    }
+-- a text without wildcards and zero bytes is a name
+name-of : (text : List ℕ) → leb 1 (length text) ≡ true → lacks 0 text ≡ true → lacks multi text ≡ true → lacks single text ≡ true → Name text
+name-of text e n m s = record { characters = characters text e n; no-multi = nowhere multi text m; no-single = nowhere single text s }
 
-finance : Name (ascii "/finance")
-finance =
-    record {
-      characters = characters (ascii "/finance") refl refl;
-      no-multi = nowhere multi (ascii "/finance") refl;
-      no-single = nowhere single (ascii "/finance") refl;
-    }
+-- 4.7.3: a name consisting only of the "/" character is valid
+pub slash-name : Name (ascii "/")
+slash-name = name-of (ascii "/") refl refl refl refl
 
 below-sport : Filter (ascii "sport/#")
 unfolding same extendFirst withByte levels isOnly wildcardFree validLevels validFilter
@@ -113,9 +106,9 @@ any-level = filter-47 (ascii "+") (characters (ascii "+") refl refl) .0 refl
 -- 4.7.1.2: "sport/#" also matches the singular "sport", since # includes the parent level
 pub parent-matches : Matches (ascii "sport/#") (ascii "sport")
 unfolding same extendFirst withByte levels isOnly wildcardFree validLevels validFilter metadata ends passes behind takes dollarRule treeLevels levelsIf checkedLevels treeMatch
-parent-matches = tree-47 (ascii "sport/#") (ascii "sport") below-sport sport .0 refl
+parent-matches = tree-47 (ascii "sport/#") (ascii "sport") below-sport (name-of (ascii "sport") refl refl refl refl) .0 refl
 
 -- 4.7.1.3: "/finance" matches "+/+" and "/+", but not "+"
 pub two-levels-differ : Matches (ascii "+") (ascii "/finance") → ⊥
 unfolding same extendFirst withByte levels isOnly wildcardFree validLevels validFilter metadata ends passes behind takes dollarRule treeLevels levelsIf checkedLevels treeMatch
-two-levels-differ m = true≢false (sym (tree-47 (ascii "+") (ascii "/finance") any-level finance .1 m))
+two-levels-differ m = true≢false (sym (tree-47 (ascii "+") (ascii "/finance") any-level (name-of (ascii "/finance") refl refl refl refl) .1 m))
