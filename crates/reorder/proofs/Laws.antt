@@ -14,7 +14,7 @@ use Rattle.store.specs.View.{view}
 use Rattle.events.specs.Event as happens
 use Rattle.acl.specs.Demand3.{run}
 use Rattle.reorder.specs.Listing.{listed, session, client, meant, recorded}
-use Rattle.reorder.specs.Running.{eventsOf, recordsOf, differ, sameRefused, share, keepsOne, fits, keeps}
+use Rattle.reorder.specs.Running.{eventsOf, recordsOf, differ, recordOf, sameRefused, share, keepsOne, fits, keeps}
 
 -- ---- a run
 
@@ -81,23 +81,42 @@ module _ {order before store records : List ℕ} {i : ℕ} (w : Running order be
             ∙ (sym (ap (λ (l : List ℕ). take i records ++ recordsOf (eventsOf l) store) none-left) ∙ w .answers)),
       )
 
--- ---- the answers of two runs
+-- ---- what is recorded of two runs
 
-module _ (a b : List ℕ) (i : ℕ) (h : i < length a) (k : i < length b) where
-  pub refused-at : sameRefused (drop i a) (drop i b) ≡ (not (differ (getD a i 0) (getD b i 0)) && sameRefused (drop (i + 1) a) (drop (i + 1) b))
+module _ (n : ℕ) (order records : List ℕ) where
+  pub record-at : (i : ℕ) → i < length order → i < length records
+      → recordOf n (drop i order) (drop i records) ≡ cond (eqb (getD order i 0) n) (getD records i 0) (recordOf n (drop (i + 1) order) (drop (i + 1) records))
+  unfolding recordOf
+  record-at i h k = rw (add-one, drop-cons order i 0 h, drop-cons records i 0 k)
+
+  pub record-end : (i : ℕ) → length order ≤ i → recordOf n (drop i order) (drop i records) ≡ 0
+  unfolding recordOf
+  record-end i h = rw (drop-of-length-le order {i = i} h)
+
+  pub record-none : (i : ℕ) → length records ≤ i → recordOf n (drop i order) (drop i records) ≡ 0
+  record-none i h = rw (drop-of-length-le records {i = i} h) (by (drop i order))
+    where
+      by : (order : List ℕ) → recordOf n order [] ≡ 0
+      by [] = unfold recordOf in refl
+      by (m ∷ order) = unfold recordOf in refl
+
+module _ (order records other others : List ℕ) (i : ℕ) where
+  pub refused-at : i < length order → i < length records
+      → sameRefused (drop i order) (drop i records) other others
+      ≡ (not (differ (getD records i 0) (recordOf (getD order i 0) other others)) && sameRefused (drop (i + 1) order) (drop (i + 1) records) other others)
   unfolding sameRefused
-  refused-at = rw (add-one, drop-cons a i 0 h, drop-cons b i 0 k)
+  refused-at h k = rw (add-one, drop-cons order i 0 h, drop-cons records i 0 k)
 
-pub refused-end : (a b : List ℕ) (i : ℕ) → length a ≤ i → sameRefused (drop i a) (drop i b) ≡ true
-unfolding sameRefused
-refused-end a b i h = rw (drop-of-length-le a {i = i} h)
+  pub refused-end : length order ≤ i → sameRefused (drop i order) (drop i records) other others ≡ true
+  unfolding sameRefused
+  refused-end h = rw (drop-of-length-le order {i = i} h)
 
-pub refused-other-end : (a b : List ℕ) (i : ℕ) → length b ≤ i → sameRefused (drop i a) (drop i b) ≡ true
-refused-other-end a b i h = rw (drop-of-length-le b {i = i} h) (by (drop i a))
-  where
-    by : (s : List ℕ) → sameRefused s [] ≡ true
-    by [] = unfold sameRefused in refl
-    by (x ∷ s) = unfold sameRefused in refl
+  pub refused-none : length records ≤ i → sameRefused (drop i order) (drop i records) other others ≡ true
+  refused-none h = rw (drop-of-length-le records {i = i} h) (by (drop i order))
+    where
+      by : (order : List ℕ) → sameRefused order [] other others ≡ true
+      by [] = unfold sameRefused in refl
+      by (n ∷ order) = unfold sameRefused in refl
 
 -- ---- two events
 

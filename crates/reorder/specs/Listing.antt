@@ -10,7 +10,7 @@ use Rattle.events.specs.Event as happens
 use Rattle.reorder.specs.declared.listing.Event.{Event}
 use Rattle.reorder.specs.declared.listing.Event.the-variants.{Connected, Disconnected, Ended}
 
--- the event of a number: its session, the digit of its client's id or `x`, and the initial of the user name or `-`
+-- the event of a number, the fifteenth of any other: its session, the digit of its client's id or `x`, and the initial of the user name or `-`
 unfoldable pub listed : ℕ → Event
 listed n =
     cond (eqb n 1) (Connected 1 0x31 0x61)

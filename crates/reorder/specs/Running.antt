@@ -1,6 +1,6 @@
 -- What two runs of the events have in common, and which orders demand 3 means.
 use Prim.Native.Nat.{ℕ}
-use mathlib.Core.Bool.{Bool, true, false, _&&_, _||_, not, cond}
+use mathlib.Core.Bool.{Bool, true, _&&_, _||_, not, cond}
 use mathlib.Core.List.{List, [], _∷_}
 use lib.Dec.{eqb, leb, ltb}
 use Rattle.reorder.specs.declared.listing.Event.{Event}
@@ -22,11 +22,17 @@ recordsOf (e ∷ es) s = recorded (happens.cause e (view s)) ∷ recordsOf es (h
 unfoldable pub differ : ℕ → ℕ → Bool
 differ a b = cond (eqb a 0) (not (eqb b 0)) (eqb b 0)
 
--- is each event done in the one run if it is in the other?
-unfoldable pub sameRefused : List ℕ → List ℕ → Bool
-sameRefused [] others = true
-sameRefused (a ∷ answers) [] = true
-sameRefused (a ∷ answers) (b ∷ others) = not (differ a b) && sameRefused answers others
+-- what is recorded, in a run of an order, of the event with this number; 0 where there is none
+unfoldable pub recordOf : ℕ → List ℕ → List ℕ → ℕ
+recordOf n [] records = 0
+recordOf n (m ∷ order) [] = 0
+recordOf n (m ∷ order) (r ∷ records) = cond (eqb m n) r (recordOf n order records)
+
+-- is each event done in the one run if it is in the other? The orders of the two runs, each with what was recorded
+unfoldable pub sameRefused : List ℕ → List ℕ → List ℕ → List ℕ → Bool
+sameRefused [] records other others = true
+sameRefused (n ∷ order) [] other others = true
+sameRefused (n ∷ order) (r ∷ records) other others = not (differ r (recordOf n other others)) && sameRefused order records other others
 
 -- do two events share a client id or a session number?
 unfoldable pub share : Event → Event → Bool

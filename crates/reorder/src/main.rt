@@ -11,7 +11,6 @@ mod telling;
 
 use acl::Opened;
 use acl::open;
-use running::ANSWERS;
 use running::EVENTS;
 use saying::say;
 
@@ -39,19 +38,18 @@ fn opened(store: &mut [u8; LENGTH]) {
     }
 }
 
-// Runs the events of an order, and writes and keeps what was recorded.
-fn ran(store: &mut [u8; LENGTH], order: &[u8; EVENTS], answers: &mut [u64; ANSWERS]) {
-    let mut records = [0; EVENTS];
-    running::run(store, order, &mut records);
-    telling::tell_all(order, &records, answers);
+// Runs the events of an order, and writes what was recorded.
+fn ran(store: &mut [u8; LENGTH], order: &[u8; EVENTS], records: &mut [u8; EVENTS]) {
+    running::run(store, order, records);
+    telling::tell_all(order, records);
 }
 
 // Runs both orders. Is the second one of those that demand 3 means, and are the same events refused?
 fn both(first: &mut [u8; LENGTH], second: &mut [u8; LENGTH]) -> bool {
-    let mut answers = [0; ANSWERS];
-    let mut others = [0; ANSWERS];
+    let mut records = [0; EVENTS];
+    let mut others = [0; EVENTS];
     say(b"The events in their order\n");
-    ran(first, &LISTED, &mut answers);
+    ran(first, &LISTED, &mut records);
     say(b"The events in another order\n");
     ran(second, &REORDERED, &mut others);
     let kept = running::keeps(&REORDERED);
@@ -59,7 +57,7 @@ fn both(first: &mut [u8; LENGTH], second: &mut [u8; LENGTH]) -> bool {
         kept,
         b"a reordering, in which events that share a client id or a session number keep their order",
     );
-    let refused = running::same_refused(&answers, &others);
+    let refused = running::same_refused(&LISTED, &records, &REORDERED, &others);
     saying::whether(refused, b"the same events are refused");
     kept & refused
 }
@@ -69,10 +67,9 @@ fn prepared(first: &mut [u8; LENGTH], second: &mut [u8; LENGTH], rows: bool) {
     opened(first);
     opened(second);
     if rows {
-        let mut answers = [0; ANSWERS];
-        say(b"The stores hold rows already, of these events\n");
-        ran(first, &EARLIER, &mut answers);
         let mut records = [0; EVENTS];
+        say(b"The stores hold rows already, of these events\n");
+        ran(first, &EARLIER, &mut records);
         running::run(second, &EARLIER, &mut records);
     }
 }

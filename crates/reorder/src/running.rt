@@ -10,9 +10,6 @@ ghost use Rattle.reorder.specs.Running as spec;
 
 pub const EVENTS: usize = 15;
 
-// An answer for each event at its number; the first is of none.
-pub const ANSWERS: usize = 16;
-
 // Hands the events of this order to the store, each getting it as the one before left it, and records their answers.
 fn run_all(store: &mut [u8; LENGTH], order: &[u8], records: &mut [u8])
     requires { ⌜ length (now records) ≡ length (now order) ⌝ }
@@ -37,7 +34,7 @@ pub fn run(store: &mut [u8; LENGTH], order: &[u8; EVENTS], records: &mut [u8; EV
 }
 
 // Is one of the two answers done, and the other a refusal?
-fn differ(a: u64, b: u64) -> bool
+fn differ(a: u8, b: u8) -> bool
     ensures { λ r. ⌜ r ≡ spec.differ a b ⌝ }
 {
     if a == 0 {
@@ -46,16 +43,34 @@ fn differ(a: u64, b: u64) -> bool
     b == 0
 }
 
-// Is each event of the one list refused if it is in the other?
-fn alike(answers: &[u64], others: &[u64]) -> bool
-    ensures { λ r. ⌜ r ≡ spec.sameRefused (now (answers .entry)) (now (others .entry)) ⌝ }
+// What was recorded of the event with this number in a run of an order; 0 where there is none.
+fn record_of(n: u8, order: &[u8], records: &[u8]) -> u8
+    ensures { λ r. ⌜ r ≡ spec.recordOf n (now (order .entry)) (now (records .entry)) ⌝ }
 {
     let mut i = 0;
-    while i < answers.len() {
-        if others.len() <= i {
+    while i < order.len() {
+        if records.len() <= i {
+            return 0;
+        }
+        if order[i] == n {
+            return records[i];
+        }
+        i += 1;
+    }
+    0
+}
+
+// Is each event of a run refused there if it is in another run, by what was recorded of the two orders?
+fn alike(order: &[u8], records: &[u8], other: &[u8], others: &[u8]) -> bool
+    ensures { λ r. ⌜ r ≡ spec.sameRefused (now (order .entry)) (now (records .entry)) (now (other .entry)) (now (others .entry)) ⌝ }
+{
+    let mut i = 0;
+    while i < order.len() {
+        if records.len() <= i {
             return true;
         }
-        if differ(answers[i], others[i]) {
+        let there = record_of(order[i], other, others);
+        if differ(records[i], there) {
             return false;
         }
         i += 1;
@@ -63,11 +78,16 @@ fn alike(answers: &[u64], others: &[u64]) -> bool
     true
 }
 
-// Are the same events refused?
-pub fn same_refused(answers: &[u64; ANSWERS], others: &[u64; ANSWERS]) -> bool
-    ensures { λ r. ⌜ r ≡ spec.sameRefused (now (answers .entry)) (now (others .entry)) ⌝ }
+// The same, of as many events as are listed.
+pub fn same_refused(
+    order: &[u8; EVENTS],
+    records: &[u8; EVENTS],
+    other: &[u8; EVENTS],
+    others: &[u8; EVENTS],
+) -> bool
+    ensures { λ r. ⌜ r ≡ spec.sameRefused (now (order .entry)) (now (records .entry)) (now (other .entry)) (now (others .entry)) ⌝ }
 {
-    alike(answers, others)
+    alike(order, records, other, others)
 }
 
 // Do the two events share a client id or a session number?

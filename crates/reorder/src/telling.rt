@@ -2,7 +2,6 @@
 use crate::listing::Event;
 use crate::listing::LONG;
 use crate::listing::listed;
-use crate::running::ANSWERS;
 use crate::running::EVENTS;
 use crate::saying::say;
 use crate::saying::say_number;
@@ -58,22 +57,11 @@ fn tell(n: u8, recorded: u8) {
     }
 }
 
-// Keeps what was recorded of an event at its number.
-fn keep(answers: &mut [u64; ANSWERS], n: u8, recorded: u8) {
-    let at = n as usize;
-    if at < ANSWERS {
-        answers[at] = recorded as u64;
-    }
-}
-
-// Writes the events of an order, each with what was recorded of it, and keeps that at its number.
-pub(crate) fn tell_all(order: &[u8; EVENTS], records: &[u8; EVENTS], answers: &mut [u64; ANSWERS]) {
+// Writes the events of an order, each with what was recorded of it.
+pub(crate) fn tell_all(order: &[u8; EVENTS], records: &[u8; EVENTS]) {
     let mut i = 0;
     while i < EVENTS {
-        let n = order[i];
-        let recorded = records[i];
-        tell(n, recorded);
-        keep(answers, n, recorded);
+        tell(order[i], records[i]);
         i += 1;
     }
 }

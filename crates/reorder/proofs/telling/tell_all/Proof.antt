@@ -6,25 +6,22 @@ use Rattle.reorder.proofs.telling.tell_all.Statement.{statement}
 use Rattle.reorder.proofs.telling.tell_all.Tie as tie
 
 abbrev Inv-loop : tie.InvT-loop
-Inv-loop order records answers₀ i₀ answers i = i ≤ 15
+Inv-loop order records i₀ i = i ≤ 15
 
 abbrev μ-loop : tie.MeasureT-loop
-μ-loop order records answers₀ i₀ answers i = 15 - i
+μ-loop order records i₀ i = 15 - i
 
 loop-holds : tie.Need-loop-holds Inv-loop μ-loop
 loop-holds c = omega arith
 
-element-copy-out-n : tie.Need-element-copy-out-n Inv-loop μ-loop
-element-copy-out-n c = omega arith
+element-copy-out-tell : tie.Need-element-copy-out-tell Inv-loop μ-loop
+element-copy-out-tell c = omega arith
 
-element-copy-out-recorded : tie.Need-element-copy-out-recorded Inv-loop μ-loop
-element-copy-out-recorded c = omega arith
+element-copy-out-tell-2 : tie.Need-element-copy-out-tell-2 Inv-loop μ-loop
+element-copy-out-tell-2 c = omega arith
 
 tell-requires : tie.Need-tell-requires Inv-loop μ-loop
 tell-requires c κs = search needs
-
-keep-requires : tie.Need-keep-requires Inv-loop μ-loop
-keep-requires c κs = search needs
 
 add-i : tie.Need-add-i Inv-loop μ-loop
 add-i c = omega arith
@@ -45,10 +42,9 @@ tell-all-spec =
     Inv-loop
     μ-loop
     loop-holds
-    element-copy-out-n
-    element-copy-out-recorded
+    element-copy-out-tell
+    element-copy-out-tell-2
     tell-requires
-    keep-requires
     add-i
     loop-less
     loop-again
