@@ -15,8 +15,8 @@
 //! expiry, ten million times. And W, whole inputs of the program `decide`: first those
 //! of the program `replays` and some that are always asked, then random ones for a seventh.
 //! With --only the phases that name the kind. With --write docs/COMPARISON.md is written, whole,
-//! from this run; not where crates/ or oracle/ changed meanwhile. Exit status 1 if anything differs,
-//! 2 if it can't be written.
+//! from this run; not where the code, oracle/ or the kit changed meanwhile. Exit status 1 if
+//! anything differs, 2 if it can't be written.
 
 mod clients;
 mod histories;

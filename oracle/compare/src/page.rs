@@ -11,7 +11,7 @@ use crate::{Options, LENGTH, LONGER};
 const TEXT: &str = include_str!("../page.md");
 const ROOT: &str = concat!(env!("CARGO_MANIFEST_DIR"), "/../..");
 
-/// The table's lines: the kind, the Rust's answer, and the rows of the tally.
+/// The table's lines: the kind, what is judged, and the rows of the tally.
 #[rustfmt::skip]
 const LINES: &[(&str, &str, &[&str])] = &[
     ("V", "yes; no", &["yes", "no"]),
@@ -30,10 +30,10 @@ const LINES: &[(&str, &str, &[&str])] = &[
     ("I", "differs", &["differs"]),
     ("I", "agrees; with the flag", &["agrees", "superuser"]),
     ("I", "no rule", &["no rule"]),
-    ("I, meant: a line that document 01 refuses", "an identity", &["intended: line"]),
+    ("I, meant: a line that document 01 refuses", "a rule", &["intended: line"]),
     ("I, an address that no address prints as, by the stand-in", "agrees", &["intended: address"]),
     ("O", "every line a rule; the store's bytes", &["opened"]),
-    ("O", "a line is refused, by number and line; the store as it was", &["a line refused"]),
+    ("O", "refused, by number and line; the store as it was", &["a line refused"]),
     ("Q, connect", "allow; with the superuser flag", &["connect: allow", "connect: superuser"]),
     ("Q, connect", "not authorized by a rule; no rule agrees; kept",
         &["connect: refused", "connect: no rule", "connect: kept"]),
@@ -72,8 +72,8 @@ const LINES: &[(&str, &str, &[&str])] = &[
     ("C, either", "a superuser is allowed", &["superuser"]),
     ("C", "a line doesn't convert; by number 1, 5, 6, 7",
         &["no: 1, too long", "no: 5, not JSON", "no: 6, no rule", "no: 7, filled"]),
-    ("C, meant: over a length or lines, QoS 3 (1, 2); a number or depth (5); filled over 256 (7)", "an answer",
-        &["intended: 1, 2", "intended: 5", "intended: 7"]),
+    ("C, meant: over a length or lines, QoS 3 (1, 2); a number or depth (5); filled over 256 (7)",
+        "the line converts, where it is asked", &["intended: 1, 2", "intended: 5", "intended: 7"]),
     ("X", "expired; valid", &["expired", "valid"]),
     ("X, meant: nanoseconds over 999,999,999 (2)", "can't be asked", &["intended: 2"]),
     ("W, input", "as the pipe takes it; in pieces", &["input, as it comes", "input, in pieces"]),
@@ -147,13 +147,13 @@ impl Page {
         let hash = |line: &str| format!("`{}`", line.split(' ').next_back().unwrap_or_default());
         let state = match state {
             "committed" => "as committed",
-            _ => "had changes that weren't committed; the trees are of its files as they were",
+            _ => "had changes that weren't committed; the trees are of them as they were",
         };
         let Options { seconds, seed, .. } = options;
         let facts = [
-            ("code of the library and `decide`, git tree", hash(crates)),
+            ("code of the library and `decide`, crates/replays/data, git tree", hash(crates)),
             ("oracle/, git tree", hash(oracle)),
-            ("work tree", state.into()),
+            ("these files", state.into()),
             ("kit", kit.trim_start_matches("kit ").into()),
             ("date", today()?),
             ("seed", seed.to_string()),
@@ -167,7 +167,7 @@ impl Page {
         Ok(format!(
             "{standing}\n## The run\n\n`oracle/run {seconds} --seed {seed} --write`. While `oracle/facts` prints the two trees, the \
              page is of what is here.\n\n| | |\n|---|---|\n{facts}\n\
-             | kind | the Rust's answer | cases | differences |\n|---|---|---|---|\n{table}"
+             | kind | judged | cases | differences |\n|---|---|---|---|\n{table}"
         ))
     }
 }
@@ -177,6 +177,7 @@ fn table_line((what, answer, rows): &(&str, &str, &[&str]), tally: &Tally) -> St
     let cases: Vec<String> = counts.iter().map(|(cases, _)| grouped(*cases)).collect();
     let differences: u64 = counts.iter().map(|(_, differences)| differences).sum();
     let differences = match (what.contains("meant"), differences) {
+        (true, 0) if counts.iter().all(|(cases, _)| *cases == 0) => "none came".into(),
         (true, 0) => "all, as meant".into(),
         (true, n) => format!("{} not as meant", grouped(n)),
         (false, n) => grouped(n),
@@ -207,9 +208,9 @@ mod tests {
             let compared = format!("crates c0\noracle 04\n{state}\nkit k 1");
             Page { compared, begin: Instant::now() }.text(&options, &Tally::default()).unwrap()
         };
-        assert!(page("committed").contains("| work tree | as committed |\n| kit | k 1 |"));
+        assert!(page("committed").contains("| these files | as committed |\n| kit | k 1 |"));
         assert!(page("changed").contains(
-            "| code of the library and `decide`, git tree | `c0` |\n| oracle/, git tree | `04` |\n| work tree | had changes"
+            "crates/replays/data, git tree | `c0` |\n| oracle/, git tree | `04` |\n| these files | had changes"
         ));
         let mut tally = Tally::default();
         tally.count(oracle::cases::Kind::V, "a", "", true, false);
@@ -217,6 +218,7 @@ mod tests {
         let line = |n: usize| table_line(&LINES[n], &tally);
         assert_eq!(line(0), "| V | yes; no | 1; 0 | 1 |\n");
         assert_eq!(line(5), "| J, meant: an LF inside the line | yes | 1 | 1 not as meant |\n");
+        assert_eq!(line(10), "| R, meant: an LF inside the line | a rule | 0 | none came |\n");
     }
 
     /// The standing text has no count of a run.

@@ -14,7 +14,7 @@ use oracle::rules::{self, Client, Identity, Verdict};
 
 use crate::histories::Judged as JudgedStep;
 
-/// The rows of the table: kind and the Rust's answer. Intended are answers no to
+/// The rows of the table: kind and what is judged. Intended are answers no to
 /// a line that serde_json reads, or the plugin takes for a rule, and document 01
 /// doesn't; and an address that only document 01 can have.
 const ROWS: [(&str, &str); 112] = [

@@ -1,4 +1,5 @@
-//! The sample: answers of the Rust, a line each, for a program to replay.
+//! The sample: answers of the Rust, and document 01's where it is narrower or gives a number; a line each,
+//! for a program to replay.
 
 use std::collections::{HashMap, HashSet};
 
