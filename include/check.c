@@ -1,7 +1,8 @@
-/* Tests of mqtt_acl.h. What is read from an answer's number, on every number that an answer can be and up to the largest; each call with NULL and
-   length 0 for each address, each flag at every value, each text at its longest and one past it, each number that can be
-   refused up to the largest; each inline call, with texts that tell its parameters apart; what is said of a client's life; every byte in a name,
-   the templates of a rule text, the used rows of a store up to the most. Built and run by include/check. */
+/* Tests of mqtt_acl.h, which is C99 and C++17. What is read from an answer's number, on every number that an answer can be and up to the
+   largest; each call with NULL and length 0 for each address, each flag at every value, each text at its longest and one past it, each
+   number that can be refused up to the largest; each inline call, with texts that tell its parameters apart, and the structs that are made; what
+   is said of a client's life, of ids that widen rules and of two hosts; every byte in a name, the templates of a rule text, the used rows of a
+   store up to the most. Built and run by include/check. */
 #include <stdio.h>
 #include <stdlib.h>
 
@@ -20,6 +21,9 @@ static unsigned long checks;
 
 #define FIRST_CONNECT MQTT_ACL_EARLIER_CONNECT_NONE
 #define FIRST MQTT_ACL_EARLIER_NONE
+
+/* A client by its id and its name, which may be NULL: absent. */
+static mqtt_acl_client who(const char *id, const char *name) { return mqtt_acl_client_of(mqtt_acl_string(id), mqtt_acl_string(name)); }
 
 /* The parts of a number that is what is answered, and what it carries. */
 static void parts(unsigned what, uint64_t carried) {
@@ -85,9 +89,14 @@ static void counts(void) {
 static void nulls(void) {
     const mqtt_acl_text none = mqtt_acl_absent();
     const mqtt_acl_store null = {NULL, 9};
-    const mqtt_acl_authinfo none_own = {{NULL, 9}, {NULL, 9}, {NULL, 9}, 0}, root = {{NULL, 9}, {NULL, 9}, {NULL, 9}, 1};
-    const mqtt_acl_client nobody = {{NULL, 9}, {NULL, 9}, {NULL, 9}, {NULL, 9}, 0, 0};
-    const mqtt_acl_client empty = {{NULL, 0}, {"", 0}, {"", 0}, {"", 0}, 1, 0};
+    const mqtt_acl_text gone = {NULL, 9};
+    const mqtt_acl_authinfo none_own = mqtt_acl_authinfo_of(gone, gone, gone);
+    mqtt_acl_authinfo root = none_own;
+    root.superuser = 1;
+    mqtt_acl_client nobody = mqtt_acl_client_of(gone, gone), empty = who(NULL, "");
+    nobody.password = nobody.address = gone;
+    empty.password = empty.address = mqtt_acl_string("");
+    empty.protocol = mqtt_acl_protocol_of(0);
     CHECK(!mqtt_acl_given(none) && mqtt_acl_given(mqtt_acl_string("")) && !mqtt_acl_given(mqtt_acl_string(NULL)));
     CHECK(mqtt_acl_length(nobody.id) == 0 && mqtt_acl_bytes(NULL, 9).length == 0);
     CHECK(mqtt_acl_ask_valid_filter(none) && mqtt_acl_ask_tree_match(none, none) && mqtt_acl_ask_plain_match(none, none));
@@ -98,14 +107,14 @@ static void nulls(void) {
     CHECK(mqtt_acl_tell_connected(null, 0, &nobody) == MQTT_ACL_MALFORMED && mqtt_acl_tell_disconnected(null, 0, &nobody) == MQTT_ACL_MALFORMED);
     CHECK(mqtt_acl_tell_ended(null, 0) == MQTT_ACL_MALFORMED && mqtt_acl_tell_ended(null, 256) == MQTT_ACL_OUT_OF_RANGE);
     CHECK(mqtt_acl_lent(null) == 0 && mqtt_acl_store_in(NULL, 9).length == 0);
-    CHECK(mqtt_acl_answer_refusal(mqtt_acl_ask_connect(null, FIRST_CONNECT, &nobody)) == MQTT_ACL_MALFORMED);
-    CHECK(mqtt_acl_answer_refusal(mqtt_acl_ask_subscribe(null, FIRST, &nobody, none, 0)) == MQTT_ACL_MALFORMED);
-    CHECK(mqtt_acl_answer_refusal(mqtt_acl_ask_publish(null, FIRST, &nobody, none, 1)) == MQTT_ACL_MALFORMED);
+    CHECK(mqtt_acl_answer_refusal(mqtt_acl_ask_connect(null, FIRST_CONNECT, &nobody, 0).number) == MQTT_ACL_MALFORMED);
+    CHECK(mqtt_acl_answer_refusal(mqtt_acl_ask_subscribe(null, FIRST, &nobody, none, 0).number) == MQTT_ACL_MALFORMED);
+    CHECK(mqtt_acl_answer_refusal(mqtt_acl_ask_publish(null, FIRST, &nobody, none, 1).number) == MQTT_ACL_MALFORMED);
     mqtt_acl_rows rows = {7, 8, 9};
-    CHECK(!mqtt_acl_ask_rows(null, &rows) && rows.filters == 7 && rows.eqs == 8 && rows.notes == 9);
+    CHECK(mqtt_acl_ask_rows(null, &rows) == MQTT_ACL_MALFORMED && rows.filters == 7 && rows.eqs == 8 && rows.notes == 9);
     CHECK(mqtt_acl_ask_plain_name(nobody.id) && !mqtt_acl_ask_filter_templates(nobody.id) && !mqtt_acl_ask_eq_templates(nobody.id));
-    CHECK(mqtt_acl_answer_what(mqtt_acl_ask_client_subscribe(&none_own, none, 0)) == MQTT_ACL_NO_DECISION);
-    CHECK(mqtt_acl_answer_what(mqtt_acl_ask_client_publish(&root, none, 0, 0, 0)) == MQTT_ACL_PUBLISH_ALLOWED);
+    CHECK(mqtt_acl_answer_what(mqtt_acl_ask_client_subscribe(&none_own, none, 0).number) == MQTT_ACL_NO_DECISION);
+    CHECK(mqtt_acl_answer_what(mqtt_acl_ask_client_publish(&root, none, 0, 0, 0).number) == MQTT_ACL_PUBLISH_ALLOWED);
 }
 
 /* Each of the four that can agree with a rule, to its own place in each of the four calls that take a client. */
@@ -116,18 +125,21 @@ static void places(void) {
     const mqtt_acl_text topic = mqtt_acl_string("t");
     const char *const rules[] = {"[\"allow\",{\"clientid\":\"x\"}]", "[\"allow\",{\"user\":\"x\",\"password\":\"y\"}]",
                                  "[\"allow\",{\"ipaddr\":\"x\"}]", "[\"allow\",{\"protocol\":4}]"};
-    const mqtt_acl_client clients[] = {{{"x", 1}, {NULL, 0}, {NULL, 0}, {NULL, 0}, 1, 3},
-                                  {{"-", 1}, {"x", 1}, {"y", 1}, {NULL, 0}, 1, 3},
-                                  {{"-", 1}, {NULL, 0}, {NULL, 0}, {"x", 1}, 1, 3},
-                                  {{"-", 1}, {NULL, 0}, {NULL, 0}, {NULL, 0}, 1, 4}};
+    mqtt_acl_client clients[] = {who("x", NULL), who("-", "x"), who("-", NULL), who("-", NULL)};
+    clients[1].password = mqtt_acl_string("y");
+    clients[2].address = mqtt_acl_string("x");
+    for (int c = 0; c < 4; c++) clients[c].protocol = mqtt_acl_protocol_of(c == 3 ? 4 : 3);
     for (int r = 0; r < 4; r++) {
         CHECK(mqtt_acl_tell_open(mqtt_acl_store_in(store, sizeof store), counts, mqtt_acl_string(rules[r])) == 0);
         for (int c = 0; c < 4; c++) {
             unsigned yes = r == c;
             CHECK(mqtt_acl_ask_identity(mqtt_acl_string(rules[r]), &clients[c]) == yes);
-            CHECK(mqtt_acl_ask_connect(lent, FIRST_CONNECT, &clients[c]) == (yes ? 16 + MQTT_ACL_CONNECT_ALLOWED : MQTT_ACL_NOT_AUTHORIZED));
-            CHECK(mqtt_acl_ask_subscribe(lent, FIRST, &clients[c], topic, 2) == (yes ? 16 + MQTT_ACL_SUBSCRIBE_QOS2 : MQTT_ACL_SUBSCRIBE_REFUSED));
-            CHECK(mqtt_acl_ask_publish(lent, FIRST, &clients[c], topic, 1) == (yes ? 16 + MQTT_ACL_PUBLISH_ALLOWED : MQTT_ACL_PUBLISH_DROPPED));
+            mqtt_acl_answer by = mqtt_acl_ask_connect(lent, FIRST_CONNECT, &clients[c], clients[c].protocol.number);
+            CHECK(by.number == (yes ? 16 + MQTT_ACL_CONNECT_ALLOWED : MQTT_ACL_NOT_AUTHORIZED));
+            by = mqtt_acl_ask_subscribe(lent, FIRST, &clients[c], topic, 2);
+            CHECK(by.number == (yes ? 16 + MQTT_ACL_SUBSCRIBE_QOS2 : MQTT_ACL_SUBSCRIBE_REFUSED));
+            by = mqtt_acl_ask_publish(lent, FIRST, &clients[c], topic, 1);
+            CHECK(by.number == (yes ? 16 + MQTT_ACL_PUBLISH_ALLOWED : MQTT_ACL_PUBLISH_DROPPED));
         }
     }
     CHECK(mqtt_acl_ask_tree_match(mqtt_acl_string("+"), mqtt_acl_string("a")) && !mqtt_acl_ask_tree_match(mqtt_acl_string("a"), mqtt_acl_string("+")));
@@ -136,7 +148,7 @@ static void places(void) {
     CHECK(mqtt_acl_ask_document(mqtt_acl_string("[]")) && mqtt_acl_ask_rule_refusal(mqtt_acl_string("[]")) == MQTT_ACL_NOT_A_RULE);
 }
 
-/* An absent text is not an empty one, an absent protocol not 0, whatever else is given. Connect always has a protocol. */
+/* An absent text is not an empty one, an absent protocol not 0, whatever else is given. Connect always has a protocol, here 0. */
 static void absent(void) {
     static uint8_t store[16 + 256 + 326 + 260 + 260];
     const mqtt_acl_counts counts = {256, 1, 1, 1};
@@ -146,19 +158,52 @@ static void absent(void) {
                                  "[\"allow\",{\"ipaddr\":\"\"}]", "[\"allow\",{\"protocol\":0}]"};
     for (int r = 0; r < 4; r++)
         for (unsigned given = 0; given < 2; given++) {
-            mqtt_acl_client c = {{"-", 1}, {"x", 1}, {"y", 1}, {"z", 1}, 1, 3};
+            mqtt_acl_client c = who("-", "x");
+            c.password = mqtt_acl_string("y");
+            c.address = mqtt_acl_string("z");
+            c.protocol = mqtt_acl_protocol_of(3);
             if (r == 0) c.name = given ? mqtt_acl_string("") : mqtt_acl_absent();
             if (r == 1) c.password = given ? mqtt_acl_string("") : mqtt_acl_absent();
             if (r == 2) c.address = given ? mqtt_acl_string("") : mqtt_acl_absent();
-            if (r == 3) {
-                c.has_protocol = (uint8_t)given;
-                c.protocol = 0;
-            }
+            if (r == 3) c.protocol = given ? mqtt_acl_protocol_of(0) : who("-", "x").protocol;
             CHECK(mqtt_acl_tell_open(mqtt_acl_store_in(store, sizeof store), counts, mqtt_acl_string(rules[r])) == 0);
             CHECK(mqtt_acl_ask_identity(mqtt_acl_string(rules[r]), &c) == given);
-            CHECK(mqtt_acl_answer_allows(mqtt_acl_ask_connect(lent, FIRST_CONNECT, &c)) == (given || r == 3));
-            CHECK(mqtt_acl_answer_allows(mqtt_acl_ask_subscribe(lent, FIRST, &c, topic, 0)) == given);
-            CHECK(mqtt_acl_answer_allows(mqtt_acl_ask_publish(lent, FIRST, &c, topic, 0)) == given);
+            CHECK(mqtt_acl_answer_allows(mqtt_acl_ask_connect(lent, FIRST_CONNECT, &c, 0).number) == (given || r == 3));
+            CHECK(mqtt_acl_answer_allows(mqtt_acl_ask_subscribe(lent, FIRST, &c, topic, 0).number) == given);
+            CHECK(mqtt_acl_answer_allows(mqtt_acl_ask_publish(lent, FIRST, &c, topic, 0).number) == given);
+        }
+}
+
+/* What the makers leave out is absent, and every byte of a struct is set. */
+static void makers(void) {
+    const mqtt_acl_text x = mqtt_acl_string("x"), y = mqtt_acl_string("y"), z = mqtt_acl_string("z");
+    const mqtt_acl_client c = mqtt_acl_client_of(x, y);
+    CHECK(c.id.bytes == x.bytes && c.name.bytes == y.bytes && !mqtt_acl_given(c.password) && !mqtt_acl_given(c.address) && !c.protocol.given);
+    const mqtt_acl_client nameless = mqtt_acl_client_of(x, mqtt_acl_absent());
+    CHECK(nameless.id.bytes == x.bytes && !mqtt_acl_given(nameless.name));
+    const mqtt_acl_authinfo a = mqtt_acl_authinfo_of(x, y, z);
+    CHECK(a.id.bytes == x.bytes && a.name.bytes == y.bytes && a.rules.bytes == z.bytes && !a.superuser);
+    CHECK(mqtt_acl_answered(0).number == 0 && mqtt_acl_answered(UINT64_MAX).number == UINT64_MAX);
+}
+
+/* Every protocol, to connect as its argument, whatever the client has; to the others by the client, with every byte as its flag. */
+static void protocols(void) {
+    static uint8_t store[16 + 256 + 326 + 260 + 260];
+    const mqtt_acl_counts counts = {256, 1, 1, 1};
+    const mqtt_acl_store lent = mqtt_acl_store_in(store, sizeof store);
+    const mqtt_acl_text rule = mqtt_acl_string("[\"allow\",{\"protocol\":4}]"), topic = mqtt_acl_string("t");
+    CHECK(mqtt_acl_tell_open(lent, counts, rule) == 0);
+    for (unsigned n = 0; n < 256; n++)
+        for (unsigned given = 0; given < 256; given++) {
+            mqtt_acl_client c = who("i", NULL);
+            c.protocol = mqtt_acl_protocol_of((uint8_t)n);
+            CHECK(c.protocol.given == 1 && c.protocol.number == n);
+            c.protocol.given = (uint8_t)given;
+            CHECK(mqtt_acl_answer_allows(mqtt_acl_ask_connect(lent, FIRST_CONNECT, &c, 4).number));
+            CHECK(mqtt_acl_answer_allows(mqtt_acl_ask_connect(lent, FIRST_CONNECT, &c, (uint8_t)given).number) == (given == 4));
+            CHECK(mqtt_acl_answer_allows(mqtt_acl_ask_subscribe(lent, FIRST, &c, topic, 0).number) == (given && n == 4));
+            CHECK(mqtt_acl_answer_allows(mqtt_acl_ask_publish(lent, FIRST, &c, topic, 0).number) == (given && n == 4));
+            CHECK(mqtt_acl_ask_identity(rule, &c) == (given && n == 4));
         }
 }
 
@@ -167,32 +212,52 @@ static void clients(void) {
     const mqtt_acl_text id = mqtt_acl_string("i"), name = mqtt_acl_string("n");
     const mqtt_acl_text rule = mqtt_acl_string("{\"permission\":\"deny\",\"action\":\"all\",\"qos\":1,\"retain\":true,\"topic\":\"eq ${clientid}${username}\"}");
     const mqtt_acl_text topic = mqtt_acl_string("in");
-    const mqtt_acl_authinfo own = {id, name, rule, 0}, root = {id, name, rule, 1}, nameless = {id, {NULL, 0}, rule, 0};
-    CHECK(mqtt_acl_ask_client_subscribe(&own, topic, 1) == 16 + MQTT_ACL_NOT_AUTHORIZED);
-    CHECK(mqtt_acl_ask_client_subscribe(&own, topic, 0) == MQTT_ACL_NO_DECISION);
-    CHECK(mqtt_acl_ask_client_subscribe(&root, topic, 1) == MQTT_ACL_SUBSCRIBE_QOS1);
-    CHECK(mqtt_acl_ask_client_publish(&own, topic, 1, 1, 0) == 16 + MQTT_ACL_PUBLISH_REFUSED);
-    CHECK(mqtt_acl_ask_client_publish(&own, topic, 1, 1, 1) == 16 + MQTT_ACL_PUBLISH_DROPPED);
-    CHECK(mqtt_acl_ask_client_publish(&own, topic, 1, 0, 1) == MQTT_ACL_NO_DECISION);
-    CHECK(mqtt_acl_ask_client_publish(&nameless, topic, 1, 1, 1) == 16 * (MQTT_ACL_NOT_A_RULE + 256));
-    CHECK(mqtt_acl_expired(1, 9, 5, 9, 6) == MQTT_ACL_EXPIRED && mqtt_acl_expired(1, 9, 5, 9, 5) == MQTT_ACL_VALID);
-    CHECK(mqtt_acl_expired(1, 9, 5, 9, UINT64_MAX) == 16 * MQTT_ACL_OUT_OF_RANGE);
+    const mqtt_acl_authinfo own = mqtt_acl_authinfo_of(id, name, rule), nameless = mqtt_acl_authinfo_of(id, mqtt_acl_absent(), rule);
+    mqtt_acl_authinfo root = own;
+    root.superuser = 1;
+    CHECK(mqtt_acl_ask_client_subscribe(&own, topic, 1).number == 16 + MQTT_ACL_NOT_AUTHORIZED);
+    CHECK(mqtt_acl_ask_client_subscribe(&own, topic, 0).number == MQTT_ACL_NO_DECISION);
+    CHECK(mqtt_acl_ask_client_subscribe(&root, topic, 1).number == MQTT_ACL_SUBSCRIBE_QOS1);
+    CHECK(mqtt_acl_ask_client_publish(&own, topic, 1, 1, 0).number == 16 + MQTT_ACL_PUBLISH_REFUSED);
+    CHECK(mqtt_acl_ask_client_publish(&own, topic, 1, 1, 1).number == 16 + MQTT_ACL_PUBLISH_DROPPED);
+    CHECK(mqtt_acl_ask_client_publish(&own, topic, 1, 0, 1).number == MQTT_ACL_NO_DECISION);
+    CHECK(mqtt_acl_ask_client_publish(&nameless, topic, 1, 1, 1).number == 16 * (MQTT_ACL_NOT_A_RULE + 256));
+    /* A client's own rules are widened too. */
+    const mqtt_acl_text open_to = mqtt_acl_string("{\"permission\":\"allow\",\"action\":\"all\",\"topic\":\"a/${clientid}/${username}\"}");
+    const mqtt_acl_authinfo wide = mqtt_acl_authinfo_of(mqtt_acl_string("+"), mqtt_acl_string("#"), open_to);
+    CHECK(mqtt_acl_ask_client_publish(&wide, mqtt_acl_string("a/g7/x/y"), 0, 0, 0).number == 16 + MQTT_ACL_PUBLISH_ALLOWED);
 
     static uint8_t store[16 + 256 + 326 + 260 + 260];
     const mqtt_acl_counts counts = {256, 1, 1, 1};
-    const mqtt_acl_client client = {id, name, {NULL, 0}, {NULL, 0}, 0, 0}, other = {name, id, {NULL, 0}, {NULL, 0}, 0, 0};
+    const mqtt_acl_client client = mqtt_acl_client_of(id, name), other = mqtt_acl_client_of(name, id);
     const mqtt_acl_store lent = mqtt_acl_store_in(store, sizeof store);
     CHECK(mqtt_acl_tell_open(mqtt_acl_store_in(store, sizeof store), counts, mqtt_acl_string("[\"allow\",\"all\",\"all\",[\"%c%u\"]]")) == 0);
-    CHECK(mqtt_acl_ask_publish(lent, FIRST, &client, topic, 0) == MQTT_ACL_PUBLISH_REFUSED);
+    CHECK(mqtt_acl_ask_publish(lent, FIRST, &client, topic, 0).number == MQTT_ACL_PUBLISH_REFUSED);
     CHECK(mqtt_acl_tell_connected(lent, 7, &client) == 0);
-    CHECK(mqtt_acl_ask_publish(lent, FIRST, &client, topic, 0) == 16 + MQTT_ACL_PUBLISH_ALLOWED);
-    CHECK(mqtt_acl_ask_publish(lent, MQTT_ACL_EARLIER_REJECTED, &client, topic, 0) == 16 * 2 + MQTT_ACL_KEPT);
+    CHECK(mqtt_acl_ask_publish(lent, FIRST, &client, topic, 0).number == 16 + MQTT_ACL_PUBLISH_ALLOWED);
+    CHECK(mqtt_acl_ask_publish(lent, MQTT_ACL_EARLIER_REJECTED, &client, topic, 0).number == 16 * 2 + MQTT_ACL_KEPT);
     CHECK(mqtt_acl_tell_disconnected(lent, 8, &client) == 0 && mqtt_acl_tell_disconnected(lent, 7, &other) == 0);
-    CHECK(mqtt_acl_ask_publish(lent, FIRST, &client, topic, 0) == 16 + MQTT_ACL_PUBLISH_ALLOWED);
+    CHECK(mqtt_acl_ask_publish(lent, FIRST, &client, topic, 0).number == 16 + MQTT_ACL_PUBLISH_ALLOWED);
     CHECK(mqtt_acl_tell_disconnected(lent, 7, &client) == 0 && store[14] == 1);
-    CHECK(mqtt_acl_ask_publish(lent, FIRST, &client, topic, 0) == MQTT_ACL_PUBLISH_REFUSED);
+    CHECK(mqtt_acl_ask_publish(lent, FIRST, &client, topic, 0).number == MQTT_ACL_PUBLISH_REFUSED);
     CHECK(mqtt_acl_tell_ended(lent, 8) == 0 && store[14] == 1);
     CHECK(mqtt_acl_tell_ended(lent, 7) == 0 && store[14] == 0);
+}
+
+/* The question by times is the call by five numbers, each of which tells. */
+static void expiry(void) {
+    const uint64_t seconds[] = {0, 1, 9, UINT64_MAX}, nanoseconds[] = {0, 5, 999999999, 1000000000, UINT64_MAX};
+    for (int e = 0; e < 20; e++)
+        for (int n = 0; n < 20; n++) {
+            const mqtt_acl_time until = {seconds[e % 4], nanoseconds[e / 4]}, now = {seconds[n % 4], nanoseconds[n / 4]};
+            const uint64_t by = mqtt_acl_ask_expired(&until, now).number, never = mqtt_acl_ask_expired(NULL, now).number;
+            CHECK(by == mqtt_acl_expired(1, until.seconds, until.nanoseconds, now.seconds, now.nanoseconds));
+            CHECK(never == mqtt_acl_expired(0, 0, 0, now.seconds, now.nanoseconds));
+            const unsigned bad = now.nanoseconds > 999999999, before = e % 4 < n % 4 || (e % 4 == n % 4 && e / 4 < n / 4);
+            CHECK(never == (bad ? 16 * 2u : 13u));
+            CHECK(by == (bad || until.nanoseconds > 999999999 ? 16 * 2u : before ? 14u : 13u));
+            CHECK(!mqtt_acl_answer_allows(by) && !mqtt_acl_answer_allows(never));
+        }
 }
 
 /* Each address NULL with length 0, alone and with all others, of calls that would read or write it if it had bytes. Page 0 isn't
@@ -209,9 +274,9 @@ static void null_addresses(void) {
         uint32_t by = mqtt_acl_connect(STORE(0), 0, AT(1, "i"), 1, AT(2, "n"), 1, AT(3, "p"), 1, AT(4, "a"), 4);
         CHECK(by == (whole ? 16 + MQTT_ACL_CONNECT_ALLOWED : three));
         by = mqtt_acl_subscribe(STORE(0), 0, AT(1, "i"), 1, AT(2, "n"), 1, AT(3, "p"), 1, AT(4, "a"), 1, 4, AT(5, "t"), 0);
-        CHECK(by == (whole ? MQTT_ACL_SUBSCRIBE_REFUSED : three));
+        CHECK(by == (whole ? (unsigned)MQTT_ACL_SUBSCRIBE_REFUSED : three));
         by = mqtt_acl_publish(STORE(0), 0, AT(1, "i"), 1, AT(2, "n"), 1, AT(3, "p"), 1, AT(4, "a"), 1, 4, AT(5, "t"), 0);
-        CHECK(by == (whole ? MQTT_ACL_PUBLISH_REFUSED : three));
+        CHECK(by == (whole ? (unsigned)MQTT_ACL_PUBLISH_REFUSED : three));
         by = mqtt_acl_identity(AT(0, "[\"allow\",{\"user\":\"n\"}]"), AT(1, "i"), 1, AT(2, "n"), 1, AT(3, "p"), 1, AT(4, "a"), 1, 4);
         CHECK(by == (null & 1 ? MQTT_ACL_NO_RULE : null & 4 ? MQTT_ACL_DIFFERS : MQTT_ACL_AGREES));
         CHECK(mqtt_acl_connected(STORE(0), 1, AT(1, "i"), 1, AT(2, "n")) == (whole ? 0 : MQTT_ACL_MALFORMED));
@@ -300,15 +365,17 @@ static void text_lengths(void) {
         for (size_t past = 0; past < 2; past++) {
             mqtt_acl_text texts[5] = {{"i", 1}, {NULL, 0}, {NULL, 0}, {NULL, 0}, {"t", 1}};
             texts[place] = mqtt_acl_bytes(long_text, most[place] + past);
-            const mqtt_acl_client c = {texts[0], texts[1], texts[2], texts[3], 0, 0};
-            const mqtt_acl_authinfo a = {texts[0], texts[1], {NULL, 0}, 0};
+            mqtt_acl_client c = mqtt_acl_client_of(texts[0], texts[1]);
+            c.password = texts[2];
+            c.address = texts[3];
+            const mqtt_acl_authinfo a = mqtt_acl_authinfo_of(texts[0], texts[1], mqtt_acl_absent());
             unsigned by = past ? MQTT_ACL_TOO_LONG : 0;
-            CHECK(mqtt_acl_answer_refusal(mqtt_acl_ask_connect(lent, FIRST_CONNECT, &c)) == (place < 4 ? by : 0));
-            CHECK(mqtt_acl_answer_refusal(mqtt_acl_ask_subscribe(lent, FIRST, &c, texts[4], 0)) == by);
-            CHECK(mqtt_acl_answer_refusal(mqtt_acl_ask_publish(lent, FIRST, &c, texts[4], 0)) == by);
+            CHECK(mqtt_acl_answer_refusal(mqtt_acl_ask_connect(lent, FIRST_CONNECT, &c, 0).number) == (place < 4 ? by : 0));
+            CHECK(mqtt_acl_answer_refusal(mqtt_acl_ask_subscribe(lent, FIRST, &c, texts[4], 0).number) == by);
+            CHECK(mqtt_acl_answer_refusal(mqtt_acl_ask_publish(lent, FIRST, &c, texts[4], 0).number) == by);
             unsigned own = place == 2 || place == 3 ? 0 : by;
-            CHECK(mqtt_acl_answer_refusal(mqtt_acl_ask_client_subscribe(&a, texts[4], 0)) == own);
-            CHECK(mqtt_acl_answer_refusal(mqtt_acl_ask_client_publish(&a, texts[4], 0, 0, 0)) == own);
+            CHECK(mqtt_acl_answer_refusal(mqtt_acl_ask_client_subscribe(&a, texts[4], 0).number) == own);
+            CHECK(mqtt_acl_answer_refusal(mqtt_acl_ask_client_publish(&a, texts[4], 0, 0, 0).number) == own);
             CHECK(mqtt_acl_tell_connected(lent, 0, &c) == (place < 2 ? by : 0));
             CHECK(mqtt_acl_tell_disconnected(lent, 0, &c) == (place < 1 ? by : 0));
             CHECK(mqtt_acl_ask_identity(mqtt_acl_string("[\"allow\",\"all\"]"), &c) == MQTT_ACL_AGREES);
@@ -323,8 +390,10 @@ static void numbers(void) {
     const mqtt_acl_counts counts = {1, 1, 1, 1};
     const mqtt_acl_store lent = mqtt_acl_store_in(store, sizeof store);
     const mqtt_acl_text none = mqtt_acl_absent(), t = mqtt_acl_string("t");
-    const mqtt_acl_client c = {{"i", 1}, {NULL, 0}, {NULL, 0}, {NULL, 0}, 0, 0};
-    const mqtt_acl_authinfo own = {{"i", 1}, {NULL, 0}, {NULL, 0}, 0}, root = {{"i", 1}, {NULL, 0}, {NULL, 0}, 1};
+    const mqtt_acl_client c = who("i", NULL);
+    const mqtt_acl_authinfo own = mqtt_acl_authinfo_of(c.id, none, none);
+    mqtt_acl_authinfo root = own;
+    root.superuser = 1;
     const uint8_t *const i = (const uint8_t *)"i";
     const uint64_t past[] = {0, 1, UINT64_C(1) << 8, UINT64_C(1) << 16, UINT64_C(1) << 32, UINT64_C(1) << 63, UINT64_MAX};
     CHECK(mqtt_acl_tell_open(mqtt_acl_store_in(store, sizeof store), counts, none) == 0);
@@ -335,14 +404,18 @@ static void numbers(void) {
         CHECK(mqtt_acl_tell_disconnected(lent, session, &c) == by && mqtt_acl_tell_ended(lent, session) == by);
         CHECK(mqtt_acl_answer_refusal(mqtt_acl_connect(store, sizeof store, four, i, 1, 0, i, 0, 0, i, 0, 0, i, 0, 0)) == by);
         CHECK(mqtt_acl_answer_refusal(mqtt_acl_subscribe(store, sizeof store, two, i, 1, 0, i, 0, 0, i, 0, 0, i, 0, 0, 0, i, 1, 0)) == by);
-        CHECK(mqtt_acl_answer_refusal(mqtt_acl_ask_subscribe(lent, FIRST, &c, t, two)) == by);
+        CHECK(mqtt_acl_answer_refusal(mqtt_acl_ask_subscribe(lent, FIRST, &c, t, two).number) == by);
         CHECK(mqtt_acl_answer_refusal(mqtt_acl_publish(store, sizeof store, two, i, 1, 0, i, 0, 0, i, 0, 0, i, 0, 0, 0, i, 1, 0)) == by);
-        CHECK(mqtt_acl_answer_refusal(mqtt_acl_ask_client_subscribe(&own, t, two)) == by);
-        CHECK(mqtt_acl_answer_refusal(mqtt_acl_ask_client_publish(&root, t, two, 0, 0)) == by);
+        CHECK(mqtt_acl_answer_refusal(mqtt_acl_ask_client_subscribe(&own, t, two).number) == by);
+        CHECK(mqtt_acl_answer_refusal(mqtt_acl_ask_client_publish(&root, t, two, 0, 0).number) == by);
         CHECK(mqtt_acl_answer_refusal(mqtt_acl_expired(1, UINT64_MAX, nanoseconds, UINT64_MAX, 0)) == by);
         CHECK(mqtt_acl_answer_refusal(mqtt_acl_expired(1, UINT64_MAX, 0, UINT64_MAX, nanoseconds)) == by);
         CHECK(mqtt_acl_answer_refusal(mqtt_acl_expired(0, 0, nanoseconds, UINT64_MAX, 0)) == 0);
         CHECK(mqtt_acl_answer_refusal(mqtt_acl_expired(0, 0, 0, UINT64_MAX, nanoseconds)) == by);
+        const mqtt_acl_time whole = {UINT64_MAX, 0}, part = {UINT64_MAX, nanoseconds};
+        CHECK(mqtt_acl_answer_refusal(mqtt_acl_ask_expired(&part, whole).number) == by);
+        CHECK(mqtt_acl_answer_refusal(mqtt_acl_ask_expired(&whole, part).number) == by);
+        CHECK(mqtt_acl_answer_refusal(mqtt_acl_ask_expired(NULL, part).number) == by);
     }
 }
 
@@ -351,65 +424,130 @@ static void earlier(void) {
     static uint8_t store[16 + 256 + 326 + 260 + 260];
     const mqtt_acl_counts counts = {256, 1, 1, 1};
     const mqtt_acl_store lent = mqtt_acl_store_in(store, sizeof store);
-    const mqtt_acl_client c = {{"i", 1}, {NULL, 0}, {NULL, 0}, {NULL, 0}, 0, 0};
+    const mqtt_acl_client c = who("i", NULL);
     const enum mqtt_acl_earlier_connect connect[] = {MQTT_ACL_EARLIER_CONNECT_NONE, MQTT_ACL_EARLIER_CONNECT_ALLOW,
                                                      MQTT_ACL_EARLIER_CONNECT_NOT_FOUND, MQTT_ACL_EARLIER_CONNECT_BAD_LOGIN,
                                                      MQTT_ACL_EARLIER_CONNECT_NOT_AUTHORIZED};
     const enum mqtt_acl_earlier others[] = {MQTT_ACL_EARLIER_NONE, MQTT_ACL_EARLIER_ALLOW, MQTT_ACL_EARLIER_REJECTED};
     CHECK(mqtt_acl_tell_open(lent, counts, mqtt_acl_string("[\"allow\",\"all\"]")) == 0);
     for (unsigned k = 0; k < 5; k++)
-        CHECK(mqtt_acl_ask_connect(lent, connect[k], &c) == (k < 3 ? 16 + MQTT_ACL_CONNECT_ALLOWED : 16 * k + MQTT_ACL_KEPT));
+        CHECK(mqtt_acl_ask_connect(lent, connect[k], &c, 0).number == (k < 3 ? 16 + MQTT_ACL_CONNECT_ALLOWED : 16 * k + MQTT_ACL_KEPT));
     for (unsigned k = 0; k < 3; k++) {
-        CHECK(mqtt_acl_ask_subscribe(lent, others[k], &c, c.id, 0) == (k < 2 ? 16 + MQTT_ACL_SUBSCRIBE_QOS0 : 16 * k + MQTT_ACL_KEPT));
-        CHECK(mqtt_acl_ask_publish(lent, others[k], &c, c.id, 0) == (k < 2 ? 16 + MQTT_ACL_PUBLISH_ALLOWED : 16 * k + MQTT_ACL_KEPT));
+        CHECK(mqtt_acl_ask_subscribe(lent, others[k], &c, c.id, 0).number == (k < 2 ? 16 + MQTT_ACL_SUBSCRIBE_QOS0 : 16 * k + MQTT_ACL_KEPT));
+        CHECK(mqtt_acl_ask_publish(lent, others[k], &c, c.id, 0).number == (k < 2 ? 16 + MQTT_ACL_PUBLISH_ALLOWED : 16 * k + MQTT_ACL_KEPT));
     }
 }
 
 static unsigned may_publish(mqtt_acl_store store, const mqtt_acl_client *c, const char *topic) {
-    return mqtt_acl_answer_allows(mqtt_acl_ask_publish(store, FIRST, c, mqtt_acl_string(topic), 0));
+    return mqtt_acl_answer_allows(mqtt_acl_ask_publish(store, FIRST, c, mqtt_acl_string(topic), 0).number);
+}
+
+/* Under one session number that serves all, 0. */
+static unsigned enters(mqtt_acl_store store, const mqtt_acl_client *c) {
+    return mqtt_acl_tell_connected(store, 0, c) == 0 && mqtt_acl_tell_ended(store, 0) == 0;
+}
+
+static unsigned leaves(mqtt_acl_store store, const mqtt_acl_client *c) {
+    return mqtt_acl_tell_connected(store, 0, c) == 0 && mqtt_acl_tell_disconnected(store, 0, c) == 0 && mqtt_acl_tell_ended(store, 0) == 0;
 }
 
 /* What the header says of a client's life. */
 static void life(void) {
-    static uint8_t bytes[16 + 512 + 326 * 8 + 260 + 260 * 8], opened[sizeof bytes], other_bytes[sizeof bytes];
+    static uint8_t bytes[16 + 512 + 326 * 8 + 260 + 260 * 8], opened[sizeof bytes];
     const mqtt_acl_counts counts = {512, 8, 1, 8};
-    const mqtt_acl_store store = mqtt_acl_store_in(bytes, sizeof bytes), other = mqtt_acl_store_in(other_bytes, sizeof other_bytes);
-    const mqtt_acl_client g7 = {{"g7", 2}, {NULL, 0}, {NULL, 0}, {NULL, 0}, 0, 0}, g8 = {{"g8", 2}, {NULL, 0}, {NULL, 0}, {NULL, 0}, 0, 0},
-                          wide = {{"+", 1}, {NULL, 0}, {NULL, 0}, {NULL, 0}, 0, 0};
+    const mqtt_acl_store store = mqtt_acl_store_in(bytes, sizeof bytes);
+    const mqtt_acl_client g7 = who("g7", NULL), g8 = who("g8", NULL);
     CHECK(mqtt_acl_tell_open(store, counts, mqtt_acl_string("[\"allow\",\"all\",\"pubsub\",[\"bench/%c/#\"]]")) == 0);
     memcpy(opened, bytes, sizeof bytes);
     /* A disconnected that is told late takes the rows of the connection that took over. */
     CHECK(mqtt_acl_tell_connected(store, 1, &g7) == 0 && mqtt_acl_tell_connected(store, 2, &g7) == 0 && may_publish(store, &g7, "bench/g7/a"));
     CHECK(mqtt_acl_tell_disconnected(store, 1, &g7) == 0 && !may_publish(store, &g7, "bench/g7/a"));
     CHECK(mqtt_acl_tell_ended(store, 1) == 0 && mqtt_acl_tell_ended(store, 2) == 0 && memcmp(bytes, opened, sizeof bytes) == 0);
-    /* One session number for all: enter by connected, ended; leave by connected, disconnected, ended. */
-    CHECK(mqtt_acl_tell_connected(store, 0, &g7) == 0 && mqtt_acl_tell_ended(store, 0) == 0);
-    CHECK(mqtt_acl_tell_connected(store, 0, &g8) == 0 && mqtt_acl_tell_ended(store, 0) == 0);
+    /* One session number for all: enter by connected, ended; leave by connected, disconnected, ended. Without that connected nothing goes. */
+    CHECK(enters(store, &g7) && enters(store, &g8));
     CHECK(may_publish(store, &g7, "bench/g7/a") && may_publish(store, &g8, "bench/g8/a") && !may_publish(store, &g8, "bench/g7/a"));
-    CHECK(mqtt_acl_answer_allows(mqtt_acl_ask_subscribe(store, FIRST, &g7, mqtt_acl_string("bench/g7/a"), 0)));
-    CHECK(mqtt_acl_tell_connected(store, 0, &g7) == 0 && mqtt_acl_tell_disconnected(store, 0, &g7) == 0 && mqtt_acl_tell_ended(store, 0) == 0);
-    CHECK(!may_publish(store, &g7, "bench/g7/a") && may_publish(store, &g8, "bench/g8/a"));
-    CHECK(mqtt_acl_tell_connected(store, 0, &g8) == 0 && mqtt_acl_tell_disconnected(store, 0, &g8) == 0 && mqtt_acl_tell_ended(store, 0) == 0);
-    CHECK(memcmp(bytes, opened, sizeof bytes) == 0);
-    /* It leaves what leaving under a number of its own leaves, and the notes as they were. */
-    CHECK(mqtt_acl_tell_connected(store, 1, &g7) == 0 && mqtt_acl_tell_connected(store, 2, &g8) == 0);
-    memcpy(other_bytes, bytes, sizeof bytes);
-    CHECK(mqtt_acl_tell_connected(store, 0, &g7) == 0 && mqtt_acl_tell_disconnected(store, 0, &g7) == 0 && mqtt_acl_tell_ended(store, 0) == 0);
-    CHECK(mqtt_acl_tell_disconnected(other, 1, &g7) == 0 && memcmp(bytes, other_bytes, sizeof bytes) == 0);
-    /* An id that widens a rule, and an absent name that does. */
-    CHECK(!mqtt_acl_ask_plain_name(wide.id) && mqtt_acl_ask_plain_name(g7.id) && mqtt_acl_ask_plain_name(g7.name));
-    CHECK(mqtt_acl_tell_connected(store, 0, &wide) == 0 && may_publish(store, &wide, "bench/g7/a"));
-    const mqtt_acl_client named = {{"g7", 2}, {"bo", 2}, {NULL, 0}, {NULL, 0}, 0, 0};
-    CHECK(mqtt_acl_tell_open(store, counts, mqtt_acl_string("[\"allow\",\"all\",\"pubsub\",[\"bench/%u#\"]]")) == 0);
-    CHECK(mqtt_acl_tell_connected(store, 0, &named) == 0 && !may_publish(store, &named, "bench/g8/a"));
-    CHECK(mqtt_acl_tell_connected(store, 0, &g7) == 0 && may_publish(store, &g7, "bench/g8/a"));
+    CHECK(mqtt_acl_answer_allows(mqtt_acl_ask_subscribe(store, FIRST, &g7, mqtt_acl_string("bench/g7/a"), 0).number));
+    CHECK(mqtt_acl_tell_disconnected(store, 0, &g7) == 0 && mqtt_acl_tell_ended(store, 0) == 0 && may_publish(store, &g7, "bench/g7/a"));
+    CHECK(leaves(store, &g7) && !may_publish(store, &g7, "bench/g7/a") && may_publish(store, &g8, "bench/g8/a"));
+    CHECK(leaves(store, &g8) && memcmp(bytes, opened, sizeof bytes) == 0);
+    /* A take-over under it: the old one leaves, the new one enters. */
+    CHECK(enters(store, &g7) && leaves(store, &g7) && enters(store, &g7) && may_publish(store, &g7, "bench/g7/a"));
     /* A superuser is judged as anyone once it is in, and a password is asked in every question. */
-    mqtt_acl_client bo = {{"g7", 2}, {"bo", 2}, {"pw", 2}, {NULL, 0}, 0, 0};
+    mqtt_acl_client bo = who("g7", "bo");
+    bo.password = mqtt_acl_string("pw");
     CHECK(mqtt_acl_tell_open(store, counts, mqtt_acl_string("[\"allow\",{\"user\":\"bo\",\"password\":\"pw\",\"superuser\":true},\"connect\"]\n"
                                                             "[\"allow\",{\"user\":\"bo\",\"password\":\"pw\"},\"publish\",[\"a\"]]\n")) == 0);
-    CHECK(mqtt_acl_answer_superuser(mqtt_acl_ask_connect(store, FIRST_CONNECT, &bo)) && may_publish(store, &bo, "a") && !may_publish(store, &bo, "b"));
+    CHECK(mqtt_acl_answer_superuser(mqtt_acl_ask_connect(store, FIRST_CONNECT, &bo, 4).number));
+    CHECK(may_publish(store, &bo, "a") && !may_publish(store, &bo, "b"));
     bo.password = mqtt_acl_absent();
     CHECK(!may_publish(store, &bo, "a"));
+    /* A deny rule by address, or by protocol, doesn't mean a client without. */
+    CHECK(mqtt_acl_tell_open(store, counts, mqtt_acl_string("[\"deny\",{\"ipaddr\":\"x\"}]\n[\"deny\",{\"protocol\":3}]\n[\"allow\",\"all\"]\n")) == 0);
+    CHECK(may_publish(store, &bo, "a"));
+    bo.address = mqtt_acl_string("x");
+    CHECK(!may_publish(store, &bo, "a"));
+    bo.address = mqtt_acl_absent();
+    bo.protocol = mqtt_acl_protocol_of(3);
+    CHECK(!may_publish(store, &bo, "a"));
+}
+
+/* Ids and names that widen rules; may the client publish once it has connected, by a rule with this topic? */
+static unsigned widens(const char *topic, const char *id, const char *name, const char *asked) {
+    static uint8_t bytes[16 + 512 + 326 + 260 + 260];
+    const mqtt_acl_counts counts = {512, 1, 1, 1};
+    const mqtt_acl_store store = mqtt_acl_store_in(bytes, sizeof bytes);
+    const mqtt_acl_client c = who(id, name);
+    char rule[128];
+    CHECK(snprintf(rule, sizeof rule, "[\"allow\",\"all\",\"pubsub\",[\"%s\"]]", topic) < 128);
+    CHECK(mqtt_acl_tell_open(store, counts, mqtt_acl_string(rule)) == 0 && mqtt_acl_tell_connected(store, 0, &c) == 0);
+    return may_publish(store, &c, asked);
+}
+
+static void widening(void) {
+    CHECK(!mqtt_acl_ask_plain_name(mqtt_acl_string("+")) && mqtt_acl_ask_plain_name(mqtt_acl_string("g7")) && mqtt_acl_ask_plain_name(mqtt_acl_absent()));
+    CHECK(widens("bench/%c/#", "+", NULL, "bench/g7/a") && !widens("bench/%c/#", "g8", NULL, "bench/g7/a"));
+    CHECK(widens("bench/%u#", "g7", NULL, "bench/g8/a") && !widens("bench/%u#", "g7", "bo", "bench/g8/a"));
+    /* Plain ids that take the user name in. */
+    CHECK(mqtt_acl_ask_plain_name(mqtt_acl_string("%u")) && mqtt_acl_ask_plain_name(mqtt_acl_string("a%")));
+    CHECK(widens("bench/%c/#", "%u", "g8", "bench/g8/a") && !widens("bench/%c/#", "%", "g8", "bench/g8/a"));
+    CHECK(widens("bench/%cu/#", "%", "g8", "bench/g8/a") && widens("bench/%cu/#", "a%", "g8", "bench/ag8/a"));
+    CHECK(widens("bench/%%c/#", "u", "g8", "bench/g8/a") && !widens("bench/%%c/#", "v", "g8", "bench/g8/a"));
+}
+
+/* Two hosts, one with a number for each client, one with a number for all: after every coming and going their stores have the same bytes, but
+   for the notes, and the shared number has none. */
+static void two_hosts(void) {
+    enum { F = 12, E = 6, N = 12, NOTES = 16 + 512 + 326 * F + 260 * E, ALL = NOTES + 260 * N };
+    static uint8_t one[ALL], other[ALL];
+    const mqtt_acl_counts counts = {512, F, E, N};
+    const mqtt_acl_store own = mqtt_acl_store_in(one, sizeof one), shared = mqtt_acl_store_in(other, sizeof other);
+    const mqtt_acl_text rules = mqtt_acl_string("[\"allow\",\"all\",\"pubsub\",[\"bench/%c/#\",\"%u\",{\"eq\":\"%c/%u\"}]]");
+    const mqtt_acl_client clients[] = {who("g7", "bo"), who("g8", NULL), who("+", "#"), who("", ""), who("$g", "+/"), who("%u", "a+")};
+    CHECK(mqtt_acl_tell_open(own, counts, rules) == 0 && mqtt_acl_tell_open(shared, counts, rules) == 0);
+    unsigned in = 0, turn = 1;
+    for (int step = 0; step < 2000; step++) {
+        turn = turn * 1103515245 + 12345;
+        const int i = (int)(turn >> 16) % 6;
+        const uint64_t number = 1 + (uint64_t)i;
+        if (in >> i & 1) {
+            CHECK(mqtt_acl_tell_disconnected(own, number, &clients[i]) == 0 && leaves(shared, &clients[i]));
+            CHECK(memcmp(one + 16, other + 16, NOTES - 16) == 0 && mqtt_acl_tell_ended(own, number) == 0);
+        } else {
+            CHECK(mqtt_acl_tell_connected(own, number, &clients[i]) == 0 && enters(shared, &clients[i]));
+        }
+        in ^= 1u << i;
+        CHECK(memcmp(one, other, 14) == 0 && memcmp(one + 16, other + 16, NOTES - 16) == 0 && other[14] == 0 && other[15] == 0);
+    }
+    /* Where connected is refused for want of room for the notes, disconnected clears nothing. */
+    static uint8_t few[16 + 512 + 326 * 2 + 260 + 260 * 2];
+    const mqtt_acl_counts small = {512, 2, 1, 2};
+    const mqtt_acl_store full = mqtt_acl_store_in(few, sizeof few);
+    const mqtt_acl_client g7 = who("g7", "bo"), stranger = who("", NULL);
+    CHECK(mqtt_acl_tell_open(full, small, mqtt_acl_string("[\"allow\",\"all\",\"pubsub\",[\"bench/%c/#\"]]")) == 0 && enters(full, &g7));
+    CHECK(mqtt_acl_tell_connected(full, 1, &stranger) == 0 && mqtt_acl_tell_disconnected(full, 1, &stranger) == 0);
+    CHECK(mqtt_acl_tell_connected(full, 2, &stranger) == 0 && mqtt_acl_tell_disconnected(full, 2, &stranger) == 0);
+    CHECK(mqtt_acl_tell_connected(full, 0, &g7) == MQTT_ACL_NOTES_FULL && mqtt_acl_tell_disconnected(full, 0, &g7) == 0);
+    CHECK(may_publish(full, &g7, "bench/g7/a"));
 }
 
 /* Every byte, first, in the middle and last in a name, and alone. */
@@ -445,7 +583,7 @@ static void templates(void) {
 
 static unsigned uses(mqtt_acl_store store, uint64_t filters, uint64_t eqs, uint64_t notes) {
     mqtt_acl_rows rows = {99, 99, 99};
-    if (!mqtt_acl_ask_rows(store, &rows)) return 0;
+    if (mqtt_acl_ask_rows(store, &rows) != 0) return 0;
     const unsigned one = mqtt_acl_used_rows(store.bytes, store.length) == filters + 65536 * eqs + UINT64_C(4294967296) * notes;
     return one && rows.filters == filters && rows.eqs == eqs && rows.notes == notes;
 }
@@ -455,8 +593,7 @@ static void used(void) {
     static uint8_t bytes[16 + 512 + 326 * 4 + 260 * 2 + 260 * 4];
     const mqtt_acl_counts counts = {512, 4, 2, 4};
     const mqtt_acl_store store = mqtt_acl_store_in(bytes, sizeof bytes);
-    const mqtt_acl_client g7 = {{"g7", 2}, {"bo", 2}, {NULL, 0}, {NULL, 0}, 0, 0}, g8 = {{"g8", 2}, {"cy", 2}, {NULL, 0}, {NULL, 0}, 0, 0},
-                          g9 = {{"g9", 2}, {"di", 2}, {NULL, 0}, {NULL, 0}, 0, 0};
+    const mqtt_acl_client g7 = who("g7", "bo"), g8 = who("g8", "cy"), g9 = who("g9", "di");
     CHECK(!uses(store, 0, 0, 0));
     CHECK(mqtt_acl_tell_open(store, counts, mqtt_acl_string(TWO_AND_ONE)) == 0 && uses(store, 0, 0, 0));
     CHECK(mqtt_acl_tell_connected(store, 1, &g7) == 0 && uses(store, 2, 1, 2));
@@ -469,10 +606,10 @@ static void used(void) {
     CHECK(mqtt_acl_tell_disconnected(store, 2, &g8) == 0 && mqtt_acl_tell_ended(store, 2) == 0 && uses(store, 0, 2, 0));
     /* A store of another length, and one with a byte that is not as laid out. */
     mqtt_acl_rows rows = {7, 8, 9};
-    CHECK(!mqtt_acl_ask_rows(mqtt_acl_store_in(bytes, sizeof bytes - 1), &rows));
+    CHECK(mqtt_acl_ask_rows(mqtt_acl_store_in(bytes, sizeof bytes - 1), &rows) == MQTT_ACL_MALFORMED);
     CHECK(mqtt_acl_used_rows(bytes, 0) == UINT64_MAX && mqtt_acl_used_rows(bytes, 16) == UINT64_MAX);
     bytes[sizeof bytes - 1] = 1;
-    CHECK(!mqtt_acl_ask_rows(store, &rows) && rows.filters == 7 && rows.eqs == 8 && rows.notes == 9);
+    CHECK(mqtt_acl_ask_rows(store, &rows) == MQTT_ACL_MALFORMED && rows.filters == 7 && rows.eqs == 8 && rows.notes == 9);
     bytes[sizeof bytes - 1] = 0;
     CHECK(uses(store, 0, 2, 0));
 }
@@ -521,9 +658,14 @@ int main(void) {
     numbers();
     places();
     absent();
+    makers();
+    protocols();
     clients();
+    expiry();
     earlier();
     life();
+    widening();
+    two_hosts();
     names();
     templates();
     used();

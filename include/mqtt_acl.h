@@ -1,14 +1,15 @@
 /* Access rules of an MQTT broker, for C99 and C++: the functions of libmqtt_acl.a, for x86-64 Linux, System V calling convention.
 
    What the functions answer is proved for any bytes and any numbers (crates/mqtt_acl); this header is tested, not proved. Its sentences
-   are those of the specification, document 01: T is the plugin's tree match, P the per-client rules' plain match. The code is position
-   independent: it can be linked into a shared object, as a broker's plugin is one.
+   are those of document 01, the specification, which docs/SPEC.md retells: T is the plugin's tree match, P the per-client rules' plain
+   match. The code is position independent: it can be linked into a shared object, as a broker's plugin is one.
 
-   Memory. All of it is the caller's, but the stack: a call takes at most 21,280 bytes of it (24 KB will do; bench/stack measures it and
-   bounds it from the machine code, no proof does). A text, and a store, crosses as its address and its length in bytes, without a zero
-   byte at the end. Nothing is kept after a call: no heap, no state between calls, no threads. A text is only read; a store is written by
-   mqtt_acl_open and by the three events, and by nothing else. Calls that only read a store may run at the same time; one that writes it
-   runs alone.
+   Memory. All of it is the caller's, but the stack, of which 24 KB will do (bench/stack measures it and bounds it from the machine code,
+   no proof does). The bounds by call, in bytes: open 3,928, connected 17,808, disconnected 21,280, ended 21,104, a question 17,440, a
+   per-client question 4,144, used rows 16,960, a rule line 4,024, templates 3,880, a JSON line 1,560, matching 176, all others at most
+   24. A text, and a store, crosses as its address and its length in bytes, without a zero byte at the end. Nothing is kept after a call:
+   no heap, no state between calls, no threads. A text is only read; a store is written by mqtt_acl_open and by the three events, and by
+   nothing else. Calls that only read a store may run at the same time; one that writes it runs alone.
 
    What the caller owes, since no proof reaches it:
    - an address from which as many bytes as the length says can be read (a store for mqtt_acl_open and events: written). The length is
@@ -17,18 +18,21 @@
      question a text may lie in the store.
    Nothing else is owed: a text may hold any bytes, a number be any of its type.
 
-   A flag is a uint8_t: 0 is false, every other value true. An answer that is yes or no is 1 or 0.
+   A flag is a uint8_t: 0 is false, every other value true. An answer that is yes or no is 1 or 0. mqtt_acl_open and events answer 0 for
+   done. The answer to a question is neither of these: no answer is 0, a denial isn't either ("What an answer says", below).
 
    An optional text is a flag, an address and a length; an optional number a flag and the number. It counts where the flag is true;
    where it is false it is not looked at, and NULL and 0 will do.
 
    Two layers. The exported functions take addresses and lengths one by one. The inline functions at the end (mqtt_acl_tell_..,
-   mqtt_acl_ask_..) take a store, a client and texts as structs, so that two texts are not easily swapped: use those.
+   mqtt_acl_ask_..) take a store, a client and texts as structs, so that two texts are not easily swapped, and answer a question by a
+   struct, which no `if` takes: use those.
 
    Between versions. MQTT_ACL_VERSION is that of this header, mqtt_acl_version() that of the library. While the first number is 0, a
    new second number may change names, arguments and the layout of a store. A new third number changes none of these: it may add
-   functions, refusal numbers from 11 on and the value 15 of mqtt_acl_what: a broker takes what it doesn't know as a denial.
-   A number that has a meaning keeps it. Structs are filled by name, or set to zero first: a member may be added at the end.
+   functions, refusal numbers from 11 on and the value 15 of mqtt_acl_what: a broker takes what it doesn't know as a denial. It may add
+   members at the end of mqtt_acl_client and mqtt_acl_authinfo: make these by mqtt_acl_client_of and mqtt_acl_authinfo_of, and set the
+   rest by name. The other structs get none. A number that has a meaning keeps it.
 
    The life of a client, in calls on a store:
      connect       asked when its CONNECT comes: may it?
@@ -37,32 +41,51 @@
      publish
      disconnected  told when it has left: its rows go
      ended         told when its session is over: the session's notes go
-   - Rows belong to the id, not to the connection. On a take-over (a second connection with the same id) the old one leaves before the
-     new one enters: disconnected, ended, then connected. A disconnected that is told late takes away the rows of the new one. If the
-     new one is then refused and the old one stays, tell connected for it again.
-   - A will is published after the connection is lost: ask it before disconnected is told, since its rows are gone afterwards.
-   - Sessions are 0 to 255. One number can serve all clients, however many: a client enters by connected and ended, and leaves by
-     connected, disconnected and ended, one client at a time, with the name by which it entered. Connected then finds its rows there, adds
-     none and makes the notes anew, by which disconnected finds what to clear. Proved (LeavesAlike of crates/hosting/specs/Claims.antt):
-     if the notes of a session of the client's own are exactly the filter templates filled for it, and the shared number has no notes,
-     then leaving so leaves the filter rows that disconnected under its own number leaves, and the notes as they were before. This is of
-     events that are not refused: where connected is, as by 10 for want of room for the notes, disconnected clears nothing.
+   - Sessions are 0 to 255, in one of two ways. Each client has a number of its own: it enters by connected, and leaves by disconnected
+     and ended. The number serves another client only after ended. Or one number serves all clients, however many: a client enters by
+     connected and ended, and leaves by connected, disconnected and ended, one client at a time, with the name by which it came.
+     Connected then finds its rows there, adds none and makes the notes anew, by which disconnected finds what to clear.
+   - Proved of the two ways (crates/hosting/specs/Claims.antt): take two hosts, one that gives each client a number of its own and one
+     with a single number for all, whose stores hold the same rules and rows. When a client comes, connected and ended give the second
+     host's store the rows that connected gives the first's (EntersAlike). When it leaves, connected, disconnected and ended leave the
+     second's the rows that disconnected leaves the first's (LeavesAlike). The shared number has no notes before, and none afterwards.
+     Premises of leaving: the client's own number has the notes of its connected and no others, and the client's eq rows are there;
+     connected makes both so of a number without notes (Entered). The client leaves with the name by which it came.
+     A disconnected right after a connected, under the same number, leaves none of the filter rows that this connected gives, whatever
+     else the store holds (TakesBack): so a client that leaves under the shared number leaves none behind.
+     All this is of events that are not refused: where connected is, as by 10 for want of room for the notes, disconnected clears
+     nothing.
+   - Rows belong to the id, not to the connection. On a take-over (a second connection with the same id) the old one leaves, as above,
+     then the new one enters. A disconnected that is told late takes away the rows of the new one. If the new one is refused and the old
+     one stays, the old one enters again.
+   - A will is published after the connection is lost: ask it before the client leaves, since its rows are gone afterwards.
+   - A reload of the broker may ask basic authentication again, for every client, also for one that is away and whose session is kept.
+     Ask connect and no more: take no new session number and tell no connected. Its rows are there already, or it is away.
+   - A broker may ask in the name of a made-up client, without address, password and protocol: Mosquitto's check_retain_source does, for
+     a publisher that may be gone, and its rows with it. Rules that list an address or a protocol don't mean such a client, and deny
+     rules that do don't deny it. Turn such a check off.
    - The superuser flag of an allowed connect is handed back to the caller and not looked at afterwards: subscribe and publish judge a
      superuser as anyone. (Per-client questions do look at theirs.)
    - A rule that asks for a password asks in every question: keep the password as long as the client is there, or its rule agrees at
-     connect and never again. The same holds for the address and the protocol.
+     connect and never again. The same holds for the address and the protocol, by which deny rules ask too: a client whose address isn't
+     given is not denied by it.
    - An id or a name that holds `+`, `#` or `/`, or begins with `$`, widens rules: `bench/%c/#` filled with the id `+` is `bench/+/#`.
      mqtt_acl_plain_name tells those that don't: refuse others at CONNECT where rules have %c or %u. Proved (PlainFills there): where
      neither id nor name holds one of the three characters, a filled template has those that it had unfilled, in number and in order. The
      empty text is plain, and an absent name fills as an empty one: `bench/%u#`, no valid filter with a name, is then `bench/#`.
+   - A plain id can still take the user name in: %c is filled first, then %u in what came of it. The id `%u` with the name `g8` makes
+     `bench/g8/#` of `bench/%c/#`; so does an id that ends in `%` before a `u` of the template. Refuse ids with `%` too where rules have
+     %c. In `%%c` an id that begins with `u` does the same: write no such template.
+   - A client's own rules are widened in the same way, by ${clientid} and ${username}. PlainFills does not cover those.
    - How large: R is the length of the rule text or more. A template is a topic with %c or %u; say that the rules have f templates that are
      filters (mqtt_acl_filter_templates) and e under eq (mqtt_acl_eq_templates). Each is filled into one text, whoever the client is, and
-     a connected adds at most f filter rows, e eq rows and f notes: both are proved (FilledOnce, Enough there). So for n clients F is n
-     times f, E n times e and N n times f, or f where one session number serves all, and none of them below 1. Eq rows never leave: for
-     E, n is every client that came since the store was opened. mqtt_acl_used_rows tells how many rows are used now. Calls check the
-     whole store, unused rows too: tables of 4,096 empty rows cost on every question.
-   - New rules without losing rows: open a second store, tell it connected for everyone present, and take it in place of the first if
-     nothing was refused. examples/c/reload.c does it.
+     a connected adds at most f filter rows, e eq rows and f notes: both are proved (FilledOnce, Enough there). So F is f times the
+     clients that are in at once. E is e times the pairs of id and name that came since the store was opened, every one: eq rows never
+     leave. N is f times the sessions that have not ended, or f where one number serves all. None of them is below 1.
+     mqtt_acl_used_rows tells how many rows are used now. Calls check the whole store, unused rows too: tables of 4,096 empty rows cost
+     on every question.
+   - New rules without losing rows: open a second store, let everyone present enter it, and take it in place of the first if nothing was
+     refused. examples/c/reload.c does it.
 
    Refusals by number, each the first cause in document 01's order; all lent memory is then unchanged:
      number  what it says                             what a broker does
@@ -83,6 +106,13 @@
 
 #if !defined(__x86_64__) || !defined(__linux__) || defined(__ILP32__)
 #error "libmqtt_acl.a is for x86-64 Linux"
+#endif
+
+/* Of a call whose number must be looked at: GCC and Clang warn where it is dropped. */
+#ifdef __GNUC__
+#define MQTT_ACL_MUST_USE __attribute__((warn_unused_result))
+#else
+#define MQTT_ACL_MUST_USE
 #endif
 
 #ifdef __cplusplus
@@ -133,7 +163,8 @@ uint8_t mqtt_acl_is_document_within(const uint8_t *line, size_t line_length, siz
 /* 0 for a rule, else the number by which the line is refused: 1, 5 or 6. Reads the line. */
 uint8_t mqtt_acl_rule_refusal(const uint8_t *line, size_t line_length);
 
-/* Do the users that the line's rule lists agree with the client? The values of mqtt_acl_identity_answer. Reads the line and the texts. */
+/* Do the users that the line's rule lists agree with the client? The values of mqtt_acl_identity_answer, which are no yes or no: 3, the
+   line is no rule, is not an agreement. Reads the line and the texts. */
 uint8_t mqtt_acl_identity(const uint8_t *line, size_t line_length, const uint8_t *id, size_t id_length, uint8_t has_name,
                           const uint8_t *name, size_t name_length, uint8_t has_password, const uint8_t *password, size_t password_length,
                           uint8_t has_address, const uint8_t *address, size_t address_length, uint8_t has_protocol, uint8_t protocol);
@@ -142,7 +173,7 @@ enum mqtt_acl_identity_answer {
     MQTT_ACL_DIFFERS = 0,
     MQTT_ACL_AGREES = 1,
     MQTT_ACL_AGREES_SUPERUSER = 2, /* with the superuser flag */
-    MQTT_ACL_NO_RULE = 3           /* the line is no rule */
+    MQTT_ACL_NO_RULE = 3           /* the line is no rule: not an agreement */
 };
 
 /* ---- A store ---- */
@@ -152,20 +183,21 @@ enum mqtt_acl_identity_answer {
    store: the counts, the text, no used row. Answers 0, or the number plus 256 times the line (mqtt_acl_open_refusal,
    mqtt_acl_open_line): 4; 1 text over R, line 0, or over 256 lines, line 257; then the first faulty line's 1, 5 or 6, lines from 1. At
    most 66,047. Reads the text. */
-uint32_t mqtt_acl_open(uint8_t *store, size_t store_length, uint64_t bytes, uint64_t filters, uint64_t eqs, uint64_t notes,
-                       const uint8_t *text, size_t text_length);
+MQTT_ACL_MUST_USE uint32_t mqtt_acl_open(uint8_t *store, size_t store_length, uint64_t bytes, uint64_t filters, uint64_t eqs,
+                                         uint64_t notes, const uint8_t *text, size_t text_length);
 
 /* Event: a client has connected. Fills the templates of the rules and adds filter, eq and note rows. Answers 0 done, else the number: 1
    id or name over 64 bytes; 2 session over 255; 3; 7; 8, 9, 10. Reads id and name, reads and writes the store. */
-uint8_t mqtt_acl_connected(uint8_t *store, size_t store_length, uint64_t session, const uint8_t *id, size_t id_length, uint8_t has_name,
-                           const uint8_t *name, size_t name_length);
+MQTT_ACL_MUST_USE uint8_t mqtt_acl_connected(uint8_t *store, size_t store_length, uint64_t session, const uint8_t *id, size_t id_length,
+                                             uint8_t has_name, const uint8_t *name, size_t name_length);
 
 /* Event: a client has disconnected. For each note of the session that is a valid filter, the client's filter rows that T-match it go;
-   the notes stay. Answers 0 done, else the number: 1 id over 64 bytes; 2; 3. Reads the id, reads and writes the store. */
-uint8_t mqtt_acl_disconnected(uint8_t *store, size_t store_length, uint64_t session, const uint8_t *id, size_t id_length);
+   the notes stay. Answers 0 done, else the number: 1 id over 64 bytes; 2; 3. Its time grows with the client's rows times the session's
+   notes: 512 of each take 2 ms with short texts, at worst 0.7 s (docs/PERFORMANCE.md). Reads the id, reads and writes the store. */
+MQTT_ACL_MUST_USE uint8_t mqtt_acl_disconnected(uint8_t *store, size_t store_length, uint64_t session, const uint8_t *id, size_t id_length);
 
 /* Event: a session has ended. Drops its notes. Answers 0 done, else the number: 2, 3. Reads and writes the store. */
-uint8_t mqtt_acl_ended(uint8_t *store, size_t store_length, uint64_t session);
+MQTT_ACL_MUST_USE uint8_t mqtt_acl_ended(uint8_t *store, size_t store_length, uint64_t session);
 
 /* The earlier answer to a connect, by whatever the broker asked before. The last two are kept. */
 enum mqtt_acl_earlier_connect {
@@ -209,7 +241,8 @@ uint32_t mqtt_acl_publish(const uint8_t *store, size_t store_length, uint64_t ea
 
 /* ---- For a host: plain names, the templates of rules, used rows ---- */
 
-/* Is the id, or the name, plain: without `+`, `#` and `/`, and not begun by `$`? The empty text is. 1 or 0. Reads the text. */
+/* Is the id, or the name, plain: without `+`, `#` and `/`, and not begun by `$`? The empty text is. It doesn't look for `%`. 1 or 0.
+   Reads the text. */
 uint8_t mqtt_acl_plain_name(const uint8_t *name, size_t name_length);
 
 /* The filters of a rule text with %c or %u, in all its rules: a connected adds at most so many filter rows, and as many notes. A line
@@ -248,6 +281,9 @@ uint64_t mqtt_acl_expired(uint8_t has_expiry, uint64_t expiry_seconds, uint64_t 
 
 /* ---- What an answer says ---- */
 
+/* No answer is 0, a denial isn't either: an answer is no yes or no. Ask mqtt_acl_answer_allows; of mqtt_acl_expired, whether
+   mqtt_acl_answer_what is MQTT_ACL_VALID. */
+
 /* What a question, or mqtt_acl_expired, is answered: mqtt_acl_answer_what. */
 enum mqtt_acl_what {
     MQTT_ACL_ERROR = 0,              /* refused by number: mqtt_acl_answer_refusal, mqtt_acl_answer_line */
@@ -273,7 +309,8 @@ enum mqtt_acl_what {
 /* What is answered, an mqtt_acl_what: the number modulo 16. No answer has 15. */
 uint8_t mqtt_acl_answer_what(uint64_t answer);
 
-/* Does the answer allow? A kept code doesn't: it is a refusal. No decision doesn't either; what follows is the caller's. */
+/* Does the answer allow? A kept code doesn't: it is a refusal. No decision doesn't either; what follows is the caller's. An answer of
+   mqtt_acl_expired never does. */
 uint8_t mqtt_acl_answer_allows(uint64_t answer);
 
 /* The deciding rule, from 1, at most 256; 0 where none decided, where a code is kept and where the call is refused. */
@@ -327,7 +364,8 @@ static inline const char *mqtt_acl_answer_word(uint64_t answer) {
 /* ---- The same calls on a store, a client and texts ---- */
 
 /* A lent text, still the caller's. With `bytes` NULL, whatever the length, it is absent: an optional one doesn't count, any other is
-   empty. The functions below are inline, each over the call that it names, and return what that returns. */
+   empty. The functions below are inline, each over the call that it names, and return what that returns, a question in an
+   mqtt_acl_answer. */
 typedef struct mqtt_acl_text {
     const void *bytes;
     size_t length;
@@ -367,23 +405,72 @@ static inline size_t mqtt_acl_length(mqtt_acl_text text) { return text.bytes ? t
 static inline uint8_t mqtt_acl_given(mqtt_acl_text text) { return text.bytes != NULL; }
 static inline size_t mqtt_acl_lent(mqtt_acl_store store) { return store.bytes ? store.length : 0; }
 
-/* Who asks. */
+/* What a question is answered, in a struct so that no `if` takes it: mqtt_acl_answer_allows(answer.number) says whether it allows. */
+typedef struct mqtt_acl_answer {
+    uint64_t number;
+} mqtt_acl_answer;
+
+/* The answer of this number. */
+static inline mqtt_acl_answer mqtt_acl_answered(uint64_t number) {
+    mqtt_acl_answer answer;
+    answer.number = number;
+    return answer;
+}
+
+/* A protocol, or none where `given`, a flag, is 0. */
+typedef struct mqtt_acl_protocol {
+    uint8_t given;
+    uint8_t number;
+} mqtt_acl_protocol;
+
+/* This protocol, given. */
+static inline mqtt_acl_protocol mqtt_acl_protocol_of(uint8_t number) {
+    mqtt_acl_protocol protocol;
+    protocol.given = 1;
+    protocol.number = number;
+    return protocol;
+}
+
+/* Who asks: made by mqtt_acl_client_of, the rest is set by name. */
 typedef struct mqtt_acl_client {
     mqtt_acl_text id;
-    mqtt_acl_text name; /* optional, as the next two */
+    mqtt_acl_text name; /* optional, as the next three */
     mqtt_acl_text password;
     mqtt_acl_text address;
-    uint8_t has_protocol; /* a flag, not looked at by connect, which always has one */
-    uint8_t protocol;
+    mqtt_acl_protocol protocol; /* of subscribe, publish and identity; connect, which always has one, takes it as an argument */
 } mqtt_acl_client;
 
-/* Who asks by the rules that came with its credentials. */
+/* A client with this id and this name, and without password, address and protocol. */
+static inline mqtt_acl_client mqtt_acl_client_of(mqtt_acl_text id, mqtt_acl_text name) {
+    mqtt_acl_client client;
+    memset(&client, 0, sizeof client);
+    client.id = id;
+    client.name = name;
+    return client;
+}
+
+/* Who asks by the rules that came with its credentials: made by mqtt_acl_authinfo_of, the rest is set by name. */
 typedef struct mqtt_acl_authinfo {
     mqtt_acl_text id;
     mqtt_acl_text name; /* optional */
     mqtt_acl_text rules;
     uint8_t superuser; /* a flag */
 } mqtt_acl_authinfo;
+
+/* One with this id, this name and these rules, who is no superuser. */
+static inline mqtt_acl_authinfo mqtt_acl_authinfo_of(mqtt_acl_text id, mqtt_acl_text name, mqtt_acl_text rules) {
+    mqtt_acl_authinfo authinfo;
+    memset(&authinfo, 0, sizeof authinfo);
+    authinfo.id = id;
+    authinfo.name = name;
+    authinfo.rules = rules;
+    return authinfo;
+}
+
+/* A time: whole seconds, and nanoseconds, at most 999,999,999. */
+typedef struct mqtt_acl_time {
+    uint64_t seconds, nanoseconds;
+} mqtt_acl_time;
 
 /* R, F, E, N: the bytes for the rule text and the rows that each table has room for. */
 typedef struct mqtt_acl_counts {
@@ -432,62 +519,63 @@ static inline uint8_t mqtt_acl_ask_rule_refusal(mqtt_acl_text line) {
     return mqtt_acl_rule_refusal(mqtt_acl_address(line), mqtt_acl_length(line));
 }
 
-/* mqtt_acl_identity. */
+/* mqtt_acl_identity: an mqtt_acl_identity_answer, no yes or no. 3, the line is no rule, is not an agreement. */
 static inline uint8_t mqtt_acl_ask_identity(mqtt_acl_text line, const mqtt_acl_client *c) {
     return mqtt_acl_identity(mqtt_acl_address(line), mqtt_acl_length(line), mqtt_acl_address(c->id), mqtt_acl_length(c->id),
                              mqtt_acl_given(c->name), mqtt_acl_address(c->name), mqtt_acl_length(c->name), mqtt_acl_given(c->password),
                              mqtt_acl_address(c->password), mqtt_acl_length(c->password), mqtt_acl_given(c->address),
-                             mqtt_acl_address(c->address), mqtt_acl_length(c->address), c->has_protocol, c->protocol);
+                             mqtt_acl_address(c->address), mqtt_acl_length(c->address), c->protocol.given, c->protocol.number);
 }
 
 /* mqtt_acl_open. */
-static inline uint32_t mqtt_acl_tell_open(mqtt_acl_store store, mqtt_acl_counts c, mqtt_acl_text text) {
+MQTT_ACL_MUST_USE static inline uint32_t mqtt_acl_tell_open(mqtt_acl_store store, mqtt_acl_counts c, mqtt_acl_text text) {
     return mqtt_acl_open(store.bytes, mqtt_acl_lent(store), c.bytes, c.filters, c.eqs, c.notes, mqtt_acl_address(text),
                          mqtt_acl_length(text));
 }
 
 /* mqtt_acl_connected, by the client's id and name. */
-static inline uint8_t mqtt_acl_tell_connected(mqtt_acl_store store, uint64_t session, const mqtt_acl_client *c) {
+MQTT_ACL_MUST_USE static inline uint8_t mqtt_acl_tell_connected(mqtt_acl_store store, uint64_t session, const mqtt_acl_client *c) {
     return mqtt_acl_connected(store.bytes, mqtt_acl_lent(store), session, mqtt_acl_address(c->id), mqtt_acl_length(c->id),
                               mqtt_acl_given(c->name), mqtt_acl_address(c->name), mqtt_acl_length(c->name));
 }
 
 /* mqtt_acl_disconnected, by the client's id. */
-static inline uint8_t mqtt_acl_tell_disconnected(mqtt_acl_store store, uint64_t session, const mqtt_acl_client *c) {
+MQTT_ACL_MUST_USE static inline uint8_t mqtt_acl_tell_disconnected(mqtt_acl_store store, uint64_t session, const mqtt_acl_client *c) {
     return mqtt_acl_disconnected(store.bytes, mqtt_acl_lent(store), session, mqtt_acl_address(c->id), mqtt_acl_length(c->id));
 }
 
 /* mqtt_acl_ended. */
-static inline uint8_t mqtt_acl_tell_ended(mqtt_acl_store store, uint64_t session) {
+MQTT_ACL_MUST_USE static inline uint8_t mqtt_acl_tell_ended(mqtt_acl_store store, uint64_t session) {
     return mqtt_acl_ended(store.bytes, mqtt_acl_lent(store), session);
 }
 
-/* mqtt_acl_connect. */
-static inline uint32_t mqtt_acl_ask_connect(mqtt_acl_store store, enum mqtt_acl_earlier_connect earlier, const mqtt_acl_client *c) {
-    return mqtt_acl_connect(store.bytes, mqtt_acl_lent(store), (uint64_t)earlier, mqtt_acl_address(c->id), mqtt_acl_length(c->id),
-                            mqtt_acl_given(c->name), mqtt_acl_address(c->name), mqtt_acl_length(c->name), mqtt_acl_given(c->password),
-                            mqtt_acl_address(c->password), mqtt_acl_length(c->password), mqtt_acl_given(c->address),
-                            mqtt_acl_address(c->address), mqtt_acl_length(c->address), c->protocol);
+/* mqtt_acl_connect, with this protocol. That of the client isn't looked at. */
+static inline mqtt_acl_answer mqtt_acl_ask_connect(mqtt_acl_store store, enum mqtt_acl_earlier_connect earlier, const mqtt_acl_client *c,
+                                                   uint8_t protocol) {
+    return mqtt_acl_answered(mqtt_acl_connect(
+        store.bytes, mqtt_acl_lent(store), (uint64_t)earlier, mqtt_acl_address(c->id), mqtt_acl_length(c->id), mqtt_acl_given(c->name),
+        mqtt_acl_address(c->name), mqtt_acl_length(c->name), mqtt_acl_given(c->password), mqtt_acl_address(c->password),
+        mqtt_acl_length(c->password), mqtt_acl_given(c->address), mqtt_acl_address(c->address), mqtt_acl_length(c->address), protocol));
 }
 
 /* mqtt_acl_subscribe. */
-static inline uint32_t mqtt_acl_ask_subscribe(mqtt_acl_store store, enum mqtt_acl_earlier earlier, const mqtt_acl_client *c,
-                                              mqtt_acl_text topic, uint64_t qos) {
-    return mqtt_acl_subscribe(store.bytes, mqtt_acl_lent(store), (uint64_t)earlier, mqtt_acl_address(c->id), mqtt_acl_length(c->id),
-                              mqtt_acl_given(c->name), mqtt_acl_address(c->name), mqtt_acl_length(c->name), mqtt_acl_given(c->password),
-                              mqtt_acl_address(c->password), mqtt_acl_length(c->password), mqtt_acl_given(c->address),
-                              mqtt_acl_address(c->address), mqtt_acl_length(c->address), c->has_protocol, c->protocol,
-                              mqtt_acl_address(topic), mqtt_acl_length(topic), qos);
+static inline mqtt_acl_answer mqtt_acl_ask_subscribe(mqtt_acl_store store, enum mqtt_acl_earlier earlier, const mqtt_acl_client *c,
+                                                     mqtt_acl_text topic, uint64_t qos) {
+    return mqtt_acl_answered(mqtt_acl_subscribe(
+        store.bytes, mqtt_acl_lent(store), (uint64_t)earlier, mqtt_acl_address(c->id), mqtt_acl_length(c->id), mqtt_acl_given(c->name),
+        mqtt_acl_address(c->name), mqtt_acl_length(c->name), mqtt_acl_given(c->password), mqtt_acl_address(c->password),
+        mqtt_acl_length(c->password), mqtt_acl_given(c->address), mqtt_acl_address(c->address), mqtt_acl_length(c->address),
+        c->protocol.given, c->protocol.number, mqtt_acl_address(topic), mqtt_acl_length(topic), qos));
 }
 
 /* mqtt_acl_publish. */
-static inline uint32_t mqtt_acl_ask_publish(mqtt_acl_store store, enum mqtt_acl_earlier earlier, const mqtt_acl_client *c,
-                                            mqtt_acl_text topic, uint8_t disconnect) {
-    return mqtt_acl_publish(store.bytes, mqtt_acl_lent(store), (uint64_t)earlier, mqtt_acl_address(c->id), mqtt_acl_length(c->id),
-                            mqtt_acl_given(c->name), mqtt_acl_address(c->name), mqtt_acl_length(c->name), mqtt_acl_given(c->password),
-                            mqtt_acl_address(c->password), mqtt_acl_length(c->password), mqtt_acl_given(c->address),
-                            mqtt_acl_address(c->address), mqtt_acl_length(c->address), c->has_protocol, c->protocol,
-                            mqtt_acl_address(topic), mqtt_acl_length(topic), disconnect);
+static inline mqtt_acl_answer mqtt_acl_ask_publish(mqtt_acl_store store, enum mqtt_acl_earlier earlier, const mqtt_acl_client *c,
+                                                   mqtt_acl_text topic, uint8_t disconnect) {
+    return mqtt_acl_answered(mqtt_acl_publish(
+        store.bytes, mqtt_acl_lent(store), (uint64_t)earlier, mqtt_acl_address(c->id), mqtt_acl_length(c->id), mqtt_acl_given(c->name),
+        mqtt_acl_address(c->name), mqtt_acl_length(c->name), mqtt_acl_given(c->password), mqtt_acl_address(c->password),
+        mqtt_acl_length(c->password), mqtt_acl_given(c->address), mqtt_acl_address(c->address), mqtt_acl_length(c->address),
+        c->protocol.given, c->protocol.number, mqtt_acl_address(topic), mqtt_acl_length(topic), disconnect));
 }
 
 /* mqtt_acl_plain_name. */
@@ -505,29 +593,39 @@ static inline size_t mqtt_acl_ask_eq_templates(mqtt_acl_text rules) {
     return mqtt_acl_eq_templates(mqtt_acl_address(rules), mqtt_acl_length(rules));
 }
 
-/* mqtt_acl_used_rows: 1, and the three counts; 0 where the store is not as laid out, and `rows` is as it was. */
-static inline uint8_t mqtt_acl_ask_rows(mqtt_acl_store store, mqtt_acl_rows *rows) {
+/* mqtt_acl_used_rows, taken apart. As events do it answers 0 for done; else MQTT_ACL_MALFORMED, the store is not as laid out, and `rows`
+   is as it was. */
+MQTT_ACL_MUST_USE static inline uint8_t mqtt_acl_ask_rows(mqtt_acl_store store, mqtt_acl_rows *rows) {
     const uint64_t used = mqtt_acl_used_rows(store.bytes, mqtt_acl_lent(store));
-    if (used == UINT64_MAX) return 0;
+    if (used == UINT64_MAX) return MQTT_ACL_MALFORMED;
     rows->filters = used % 65536;
     rows->eqs = used / 65536 % 65536;
     rows->notes = used / 65536 / 65536;
-    return 1;
+    return 0;
 }
 
 /* mqtt_acl_client_subscribe. */
-static inline uint64_t mqtt_acl_ask_client_subscribe(const mqtt_acl_authinfo *a, mqtt_acl_text topic, uint64_t qos) {
-    return mqtt_acl_client_subscribe(a->superuser, mqtt_acl_address(a->id), mqtt_acl_length(a->id), mqtt_acl_given(a->name),
-                                     mqtt_acl_address(a->name), mqtt_acl_length(a->name), mqtt_acl_address(a->rules),
-                                     mqtt_acl_length(a->rules), mqtt_acl_address(topic), mqtt_acl_length(topic), qos);
+static inline mqtt_acl_answer mqtt_acl_ask_client_subscribe(const mqtt_acl_authinfo *a, mqtt_acl_text topic, uint64_t qos) {
+    return mqtt_acl_answered(mqtt_acl_client_subscribe(
+        a->superuser, mqtt_acl_address(a->id), mqtt_acl_length(a->id), mqtt_acl_given(a->name), mqtt_acl_address(a->name),
+        mqtt_acl_length(a->name), mqtt_acl_address(a->rules), mqtt_acl_length(a->rules), mqtt_acl_address(topic), mqtt_acl_length(topic),
+        qos));
 }
 
 /* mqtt_acl_client_publish. */
-static inline uint64_t mqtt_acl_ask_client_publish(const mqtt_acl_authinfo *a, mqtt_acl_text topic, uint64_t qos, uint8_t retain,
-                                                   uint8_t disconnect) {
-    return mqtt_acl_client_publish(a->superuser, mqtt_acl_address(a->id), mqtt_acl_length(a->id), mqtt_acl_given(a->name),
-                                   mqtt_acl_address(a->name), mqtt_acl_length(a->name), mqtt_acl_address(a->rules),
-                                   mqtt_acl_length(a->rules), mqtt_acl_address(topic), mqtt_acl_length(topic), qos, retain, disconnect);
+static inline mqtt_acl_answer mqtt_acl_ask_client_publish(const mqtt_acl_authinfo *a, mqtt_acl_text topic, uint64_t qos, uint8_t retain,
+                                                          uint8_t disconnect) {
+    return mqtt_acl_answered(mqtt_acl_client_publish(
+        a->superuser, mqtt_acl_address(a->id), mqtt_acl_length(a->id), mqtt_acl_given(a->name), mqtt_acl_address(a->name),
+        mqtt_acl_length(a->name), mqtt_acl_address(a->rules), mqtt_acl_length(a->rules), mqtt_acl_address(topic), mqtt_acl_length(topic),
+        qos, retain, disconnect));
+}
+
+/* mqtt_acl_expired: are the credentials with this expiry, NULL for none, expired now? They hold where mqtt_acl_answer_what is
+   MQTT_ACL_VALID, and there alone. */
+static inline mqtt_acl_answer mqtt_acl_ask_expired(const mqtt_acl_time *expiry, mqtt_acl_time now) {
+    return mqtt_acl_answered(mqtt_acl_expired(expiry != NULL, expiry ? expiry->seconds : 0, expiry ? expiry->nanoseconds : 0, now.seconds,
+                                              now.nanoseconds));
 }
 
 #ifdef __cplusplus

@@ -8,11 +8,12 @@
 
 #define CLIENTS 3
 
-static const mqtt_acl_client present[CLIENTS] = {
-    {{"g1", 2}, {"ann", 3}, {NULL, 0}, {NULL, 0}, 1, 4},
-    {{"g2", 2}, {"bo", 2}, {NULL, 0}, {NULL, 0}, 1, 4},
-    {{"g3", 2}, {NULL, 0}, {NULL, 0}, {NULL, 0}, 1, 5},
-};
+static mqtt_acl_client present[CLIENTS];
+
+static void come(int i, const char *id, const char *name, uint8_t protocol) {
+    present[i] = mqtt_acl_client_of(mqtt_acl_string(id), mqtt_acl_string(name));
+    present[i].protocol = mqtt_acl_protocol_of(protocol);
+}
 
 /* A store for the rules with everyone present in it, session by session; one of no bytes where anything is refused. */
 static mqtt_acl_store loaded(mqtt_acl_counts counts, const char *rules) {
@@ -42,15 +43,18 @@ static void reload(const char *what, mqtt_acl_store *store, mqtt_acl_counts coun
 
 static void ask(mqtt_acl_store store, const char *topic) {
     for (int i = 0; i < CLIENTS; i++) {
-        const uint32_t answer = mqtt_acl_ask_publish(store, MQTT_ACL_EARLIER_NONE, &present[i], mqtt_acl_string(topic), 0);
+        const mqtt_acl_answer answer = mqtt_acl_ask_publish(store, MQTT_ACL_EARLIER_NONE, &present[i], mqtt_acl_string(topic), 0);
         printf("  %.*s publishes %s: %s %u\n", (int)present[i].id.length, (const char *)present[i].id.bytes, topic,
-               mqtt_acl_answer_word(answer), (unsigned)mqtt_acl_answer_rule(answer));
+               mqtt_acl_answer_word(answer.number), (unsigned)mqtt_acl_answer_rule(answer.number));
     }
 }
 
 int main(void) {
-    const mqtt_acl_counts counts = {2048, 16, 4, 16}, small = {2048, 2, 4, 16};
+    const mqtt_acl_counts counts = {2048, 16, 4, 16}, small = {2048, 2, 4, 16}; /* R, F, E, N */
     mqtt_acl_store store = mqtt_acl_store_in(NULL, 0);
+    come(0, "g1", "ann", 4);
+    come(1, "g2", "bo", 4);
+    come(2, "g3", NULL, 5);
     reload("first rules", &store, counts, "[\"allow\",\"all\",\"publish\",[\"bench/%c/set\"]]\n");
     ask(store, "bench/g2/set");
     reload("a line that is no rule", &store, counts, "[\"allow\",\"all\"]\n[\"perhaps\",\"all\"]\n");
