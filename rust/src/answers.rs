@@ -1,6 +1,6 @@
 //! What the calls answer, and how it is read from their numbers, by the parts that the library takes them apart
 //! into (crates/mqtt_acl/specs/Unpacked.antt); what allows is what the library says does. No two answers have the
-//! same number; a number that is no answer can come only from another library, and panics.
+//! same number; a number that is no answer can come only from another library, and is an error.
 
 use std::error::Error;
 use std::fmt;
@@ -11,35 +11,52 @@ use crate::sys::{self, Parts};
 /// then unchanged.
 #[derive(Clone, Copy, Debug, PartialEq, Eq, Hash)]
 #[non_exhaustive]
-#[repr(u8)]
 pub enum Refusal {
     /// 1: a text over its length, a rule text over its lines, or an array of over 64 topics.
-    TooLong = 1,
+    TooLong,
     /// 2: session over 255, earlier code over 4 (connect) or over 2, QoS over 2, or nanoseconds over
     /// 999,999,999.
-    OutOfRange = 2,
+    OutOfRange,
     /// 3: the store is not as laid out.
-    Malformed = 3,
+    Malformed,
     /// 4: a count out of range, or a store whose length is not the formula's.
-    Counts = 4,
+    Counts,
     /// 5: a line that is not the JSON of document 01.
-    NotJson = 5,
+    NotJson,
     /// 6: a line that is not a rule.
-    NotARule = 6,
+    NotARule,
     /// 7: a text over 256 bytes once filled.
-    FilledTooLong = 7,
+    FilledTooLong,
     /// 8: new filter rows exceed those free.
-    FiltersFull = 8,
+    FiltersFull,
     /// 9: new eq rows exceed those free.
-    EqsFull = 9,
+    EqsFull,
     /// 10: new note rows exceed those free.
-    NotesFull = 10,
+    NotesFull,
+    /// A number that this crate doesn't know, from a newer library. 0 where what came is no answer at all, which
+    /// the library of this version is proved not to give. Either is a denial.
+    Unknown(u8),
 }
 
+/// What came is no answer.
+const NO_ANSWER: Refusal = Refusal::Unknown(0);
+
 impl Refusal {
-    /// The number of document 01, 1 to 10.
+    /// The number of document 01, 1 to 10; that of [`Refusal::Unknown`] is any other.
     pub fn number(self) -> u8 {
-        self as u8
+        match self {
+            Refusal::TooLong => 1,
+            Refusal::OutOfRange => 2,
+            Refusal::Malformed => 3,
+            Refusal::Counts => 4,
+            Refusal::NotJson => 5,
+            Refusal::NotARule => 6,
+            Refusal::FilledTooLong => 7,
+            Refusal::FiltersFull => 8,
+            Refusal::EqsFull => 9,
+            Refusal::NotesFull => 10,
+            Refusal::Unknown(number) => number,
+        }
     }
 
     fn of(number: u8) -> Refusal {
@@ -54,7 +71,7 @@ impl Refusal {
             8 => Refusal::FiltersFull,
             9 => Refusal::EqsFull,
             10 => Refusal::NotesFull,
-            _ => panic!("{number} is no refusal"),
+            _ => Refusal::Unknown(number),
         }
     }
 }
@@ -72,6 +89,8 @@ impl fmt::Display for Refusal {
             Refusal::FiltersFull => "no room for the filter rows",
             Refusal::EqsFull => "no room for the eq rows",
             Refusal::NotesFull => "no room for the note rows",
+            Refusal::Unknown(0) => return write!(f, "what the library says is no answer"),
+            Refusal::Unknown(number) => return write!(f, "error {number}: not known to this crate"),
         };
         write!(f, "error {}: {cause}", self.number())
     }
@@ -92,8 +111,16 @@ impl LineRefusal {
     fn of(number: u8, line: u64) -> LineRefusal {
         match u16::try_from(line) {
             Ok(line) if line <= 257 => LineRefusal { refusal: Refusal::of(number), line },
-            _ => panic!("{line} is no line"),
+            _ => NO_ANSWER.into(),
         }
+    }
+}
+
+/// Without a line, so that `?` takes either: after [`Counts::new`](crate::Counts::new) and events, and after
+/// [`Store::open`](crate::Store::open).
+impl From<Refusal> for LineRefusal {
+    fn from(refusal: Refusal) -> LineRefusal {
+        LineRefusal { refusal, line: 0 }
     }
 }
 
@@ -247,32 +274,32 @@ pub enum Identity {
         /// The superuser flag of the last listed user.
         superuser: bool,
     },
-    /// The line is no rule.
+    /// The line is no rule: not an agreement.
     NoRule,
 }
 
 impl Parts {
     /// The deciding rule.
-    fn by(self) -> u16 {
+    fn by(self) -> Result<u16, Refusal> {
         match u16::try_from(self.rule) {
-            Ok(rule) if rule <= 256 => rule,
-            _ => panic!("{} is no rule", self.rule),
+            Ok(rule) if rule <= 256 => Ok(rule),
+            _ => Err(NO_ANSWER),
         }
     }
 
     /// The code that is kept.
-    fn kept_connect(self) -> EarlierConnect {
+    fn kept_connect(self) -> Result<EarlierConnect, Refusal> {
         match self.code {
-            3 => EarlierConnect::BadLogin,
-            4 => EarlierConnect::NotAuthorized,
-            code => panic!("{code} is no kept code"),
+            3 => Ok(EarlierConnect::BadLogin),
+            4 => Ok(EarlierConnect::NotAuthorized),
+            _ => Err(NO_ANSWER),
         }
     }
 
-    fn kept(self) -> Earlier {
+    fn kept(self) -> Result<Earlier, Refusal> {
         match self.code {
-            2 => Earlier::Rejected,
-            code => panic!("{code} is no kept code"),
+            2 => Ok(Earlier::Rejected),
+            _ => Err(NO_ANSWER),
         }
     }
 
@@ -280,7 +307,7 @@ impl Parts {
     fn refused(self) -> Refusal {
         match self.line {
             0 => Refusal::of(self.refusal),
-            line => panic!("{line} is a line of no text"),
+            _ => NO_ANSWER,
         }
     }
 
@@ -306,13 +333,13 @@ pub(crate) fn opened(answer: u32) -> Result<(), LineRefusal> {
     }
 }
 
+/// A number that isn't known is no agreement either.
 pub(crate) fn identity(answer: u8) -> Identity {
     match answer {
         0 => Identity::Differs,
         1 => Identity::Agrees { superuser: false },
         2 => Identity::Agrees { superuser: true },
-        3 => Identity::NoRule,
-        _ => panic!("{answer} is no answer of mqtt_acl_identity"),
+        _ => Identity::NoRule,
     }
 }
 
@@ -320,10 +347,10 @@ pub(crate) fn connect(answer: u32) -> Result<Connect, Refusal> {
     let parts = sys::parts(answer.into());
     match parts.what {
         0 => Err(parts.refused()),
-        1 => Ok(Connect::Kept(parts.kept_connect())),
-        2 | 3 if parts.allows => Ok(Connect::Allow { rule: parts.by(), superuser: parts.superuser }),
-        8 => Ok(Connect::Refuse { rule: parts.by() }),
-        _ => panic!("{answer} is no answer of mqtt_acl_connect"),
+        1 => Ok(Connect::Kept(parts.kept_connect()?)),
+        2 | 3 if parts.allows => Ok(Connect::Allow { rule: parts.by()?, superuser: parts.superuser }),
+        8 => Ok(Connect::Refuse { rule: parts.by()? }),
+        _ => Err(NO_ANSWER),
     }
 }
 
@@ -331,10 +358,10 @@ pub(crate) fn subscribe(answer: u32) -> Result<Subscribe, Refusal> {
     let parts = sys::parts(answer.into());
     match parts.what {
         0 => Err(parts.refused()),
-        1 => Ok(Subscribe::Kept(parts.kept())),
-        4..=6 if parts.allows => Ok(Subscribe::Allow { rule: parts.by(), qos: parts.qos }),
-        11 => Ok(Subscribe::Refuse { rule: parts.by() }),
-        _ => panic!("{answer} is no answer of mqtt_acl_subscribe"),
+        1 => Ok(Subscribe::Kept(parts.kept()?)),
+        4..=6 if parts.allows => Ok(Subscribe::Allow { rule: parts.by()?, qos: parts.qos }),
+        11 => Ok(Subscribe::Refuse { rule: parts.by()? }),
+        _ => Err(NO_ANSWER),
     }
 }
 
@@ -342,10 +369,10 @@ pub(crate) fn publish(answer: u32) -> Result<Publish, Refusal> {
     let parts = sys::parts(answer.into());
     match parts.what {
         0 => Err(parts.refused()),
-        1 => Ok(Publish::Kept(parts.kept())),
-        7 if parts.allows => Ok(Publish::Allow { rule: parts.by() }),
-        9 | 10 => Ok(Publish::Refuse { rule: parts.by(), disconnect: parts.disconnect }),
-        _ => panic!("{answer} is no answer of mqtt_acl_publish"),
+        1 => Ok(Publish::Kept(parts.kept()?)),
+        7 if parts.allows => Ok(Publish::Allow { rule: parts.by()? }),
+        9 | 10 => Ok(Publish::Refuse { rule: parts.by()?, disconnect: parts.disconnect }),
+        _ => Err(NO_ANSWER),
     }
 }
 
@@ -353,10 +380,10 @@ pub(crate) fn client_subscribe(answer: u64) -> Result<ClientSubscribe, LineRefus
     let parts = sys::parts(answer);
     match parts.what {
         0 => Err(parts.refused_at()),
-        4..=6 if parts.allows => Ok(ClientSubscribe::Allow { rule: parts.by(), qos: parts.qos }),
-        8 => Ok(ClientSubscribe::Refuse { rule: parts.by() }),
+        4..=6 if parts.allows => Ok(ClientSubscribe::Allow { rule: parts.by()?, qos: parts.qos }),
+        8 => Ok(ClientSubscribe::Refuse { rule: parts.by()? }),
         12 => Ok(ClientSubscribe::NoDecision),
-        _ => panic!("{answer} is no answer of mqtt_acl_client_subscribe"),
+        _ => Err(NO_ANSWER.into()),
     }
 }
 
@@ -364,10 +391,10 @@ pub(crate) fn client_publish(answer: u64) -> Result<ClientPublish, LineRefusal> 
     let parts = sys::parts(answer);
     match parts.what {
         0 => Err(parts.refused_at()),
-        7 if parts.allows => Ok(ClientPublish::Allow { rule: parts.by() }),
-        9 | 10 => Ok(ClientPublish::Refuse { rule: parts.by(), disconnect: parts.disconnect }),
+        7 if parts.allows => Ok(ClientPublish::Allow { rule: parts.by()? }),
+        9 | 10 => Ok(ClientPublish::Refuse { rule: parts.by()?, disconnect: parts.disconnect }),
         12 => Ok(ClientPublish::NoDecision),
-        _ => panic!("{answer} is no answer of mqtt_acl_client_publish"),
+        _ => Err(NO_ANSWER.into()),
     }
 }
 
@@ -377,7 +404,7 @@ pub(crate) fn expired(answer: u64) -> Result<bool, Refusal> {
         0 => Err(parts.refused()),
         13 => Ok(false),
         14 => Ok(true),
-        _ => panic!("{answer} is no answer of mqtt_acl_expired"),
+        _ => Err(NO_ANSWER),
     }
 }
 
@@ -423,22 +450,78 @@ mod tests {
         assert_eq!((expired(13), expired(14), expired(32)), (Ok(false), Ok(true), Err(Refusal::OutOfRange)));
     }
 
-    /// A number of another library is no answer, and never one that allows.
+    /// A number of another library is an error, and never an answer that allows. Nothing panics.
     #[test]
     fn no_answers() {
-        fn panics<T>(read: fn() -> T) -> bool {
-            std::panic::catch_unwind(read).is_err()
+        let none = Refusal::Unknown(0);
+        assert_eq!(connect(0), Err(none));
+        assert_eq!(connect(16 * 257 + 2), Err(none));
+        assert_eq!(connect(16 * 2 + 1), Err(none));
+        assert_eq!(connect(16 * 257 * 16), Err(none));
+        assert_eq!(subscribe(2), Err(none));
+        assert_eq!(subscribe(16 * 3 + 1), Err(none));
+        assert_eq!(publish(16 * 3 + 1), Err(none));
+        assert_eq!(client_publish(11), Err(none.into()));
+        assert_eq!(client_publish(16 * 257 + 7), Err(none.into()));
+        assert_eq!(client_publish(u64::MAX), Err(none.into()));
+        assert_eq!(client_subscribe(16 * (1 + 256 * 258)), Err(none.into()));
+        assert_eq!(client_subscribe(16 * (1 + 256 * 65_536)), Err(none.into()));
+        assert_eq!((expired(12), expired(0)), (Err(none), Err(none)));
+        assert_eq!(
+            (opened(256), opened(258 * 256 + 1)),
+            (Err(LineRefusal { refusal: none, line: 1 }), Err(none.into()))
+        );
+        for answer in 3..=255 {
+            assert_eq!(identity(answer), Identity::NoRule);
         }
-        assert!(panics(|| connect(0)));
-        assert!(panics(|| connect(16 * 11)));
-        assert!(panics(|| connect(16 * 257 + 2)));
-        assert!(panics(|| subscribe(2)));
-        assert!(panics(|| publish(15)));
-        assert!(panics(|| connect(16 * 257 * 16)));
-        assert!(panics(|| client_publish(11)));
-        assert!(panics(|| client_publish(u64::MAX)));
-        assert!(panics(|| client_subscribe(16 * (1 + 256 * 258))));
-        assert!(panics(|| expired(12)));
-        assert!(panics(|| identity(4)));
+    }
+
+    /// Numbers that a later version may add: refusals from 11 on, and the value 15.
+    #[test]
+    fn later_numbers() {
+        for number in 11..=255u8 {
+            let later = Refusal::Unknown(number);
+            assert_eq!(later.number(), number);
+            assert_eq!(done(number), Err(later));
+            assert_eq!(opened(u32::from(number) + 256 * 7), Err(LineRefusal { refusal: later, line: 7 }));
+            assert_eq!(connect(16 * u32::from(number)), Err(later));
+            assert_eq!(subscribe(16 * u32::from(number)), Err(later));
+            assert_eq!(publish(16 * u32::from(number)), Err(later));
+            assert_eq!(client_subscribe(16 * u64::from(number)), Err(later.into()));
+            assert_eq!(client_publish(16 * u64::from(number)), Err(later.into()));
+            assert_eq!(expired(16 * u64::from(number)), Err(later));
+        }
+        for rule in [0, 1, 256] {
+            let (answer, none) = (16 * rule + 15, Refusal::Unknown(0));
+            assert_eq!(
+                (connect(answer), subscribe(answer), publish(answer)),
+                (Err(none), Err(none), Err(none))
+            );
+            let answer = u64::from(answer);
+            assert_eq!(
+                (client_subscribe(answer), client_publish(answer)),
+                (Err(none.into()), Err(none.into()))
+            );
+            assert_eq!(expired(answer), Err(none));
+        }
+    }
+
+    /// Any number is read by every call, and allows only where the library says that it does.
+    #[test]
+    fn any_number() {
+        for answer in (0..1 << 17).chain((1..1 << 9).map(|n| u32::MAX / n)) {
+            let allows = sys::parts(answer.into()).allows;
+            assert!(allows || !matches!(connect(answer), Ok(Connect::Allow { .. })));
+            assert!(allows || !matches!(subscribe(answer), Ok(Subscribe::Allow { .. })));
+            assert!(allows || !matches!(publish(answer), Ok(Publish::Allow { .. })));
+            let wide = u64::from(answer) << 32 | u64::from(answer);
+            for answer in [answer.into(), wide] {
+                let (allows, what) = (sys::parts(answer).allows, sys::parts(answer).what);
+                assert!(allows || !matches!(client_subscribe(answer), Ok(ClientSubscribe::Allow { .. })));
+                assert!(allows || !matches!(client_publish(answer), Ok(ClientPublish::Allow { .. })));
+                assert_eq!(what == 13, expired(answer) == Ok(false));
+            }
+            let _ = opened(answer);
+        }
     }
 }

@@ -5,6 +5,9 @@ use crate::sys;
 
 /// Is the client id, or the user name, plain: without `+`, `#` and `/`, and not begun by `$`? Others widen
 /// rules: `bench/%c/#` filled with the id `+` is `bench/+/#`. The empty text is plain.
+///
+/// It doesn't look for `%`. `%c` is filled first, then `%u` in what came of it: the id `%u` with the name `g8`
+/// makes `bench/g8/#` of `bench/%c/#`. Refuse ids with `%` too where rules have `%c`.
 pub fn plain_name(name: &[u8]) -> bool {
     sys::plain_name(name)
 }
@@ -12,9 +15,9 @@ pub fn plain_name(name: &[u8]) -> bool {
 /// How many templates, topics with `%c` or `%u`, a rule text has. A line that is no rule has none.
 ///
 /// [`Store::connected`](crate::Store::connected) adds at most `filters` filter rows, `eqs` eq rows and `filters`
-/// notes, whoever the client is. So for n clients F is n times `filters`, E n times `eqs` and N n times `filters`,
-/// or `filters` where one session number serves all, and none of them below 1. Eq rows never leave: for E, n is
-/// every client that came since the store was opened.
+/// notes, whoever the client is. So F is `filters` times the clients that are in at once. E is `eqs` times the
+/// pairs of id and name that came since the store was opened, every one: eq rows never leave. N is `filters` times
+/// the sessions that have not ended, or `filters` where one number serves all. None of them is below 1.
 #[derive(Clone, Copy, Debug, PartialEq, Eq, Hash)]
 #[non_exhaustive]
 pub struct Templates {

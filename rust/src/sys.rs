@@ -272,16 +272,16 @@ pub(crate) fn open(store: &mut [u8], counts: [u64; 4], text: &[u8]) -> u32 {
     }
 }
 
-pub(crate) fn connected(store: &mut [u8], session: u64, id: &[u8], name: Option<&[u8]>) -> u8 {
-    let (has_name, name, name_length) = lent(name);
+pub(crate) fn connected(store: &mut [u8], session: u64, who: Client<'_>) -> u8 {
+    let (has_name, name, name_length) = lent(who.name);
     // SAFETY: see the module; the function writes the store and reads the rest.
     unsafe {
         exported::mqtt_acl_connected(
             store.as_mut_ptr(),
             store.len(),
             session,
-            id.as_ptr(),
-            id.len(),
+            who.id.as_ptr(),
+            who.id.len(),
             has_name,
             name,
             name_length,
@@ -289,10 +289,16 @@ pub(crate) fn connected(store: &mut [u8], session: u64, id: &[u8], name: Option<
     }
 }
 
-pub(crate) fn disconnected(store: &mut [u8], session: u64, id: &[u8]) -> u8 {
+pub(crate) fn disconnected(store: &mut [u8], session: u64, who: Client<'_>) -> u8 {
     // SAFETY: see the module; the function writes the store and reads the id.
     unsafe {
-        exported::mqtt_acl_disconnected(store.as_mut_ptr(), store.len(), session, id.as_ptr(), id.len())
+        exported::mqtt_acl_disconnected(
+            store.as_mut_ptr(),
+            store.len(),
+            session,
+            who.id.as_ptr(),
+            who.id.len(),
+        )
     }
 }
 

@@ -10,7 +10,14 @@ const EXAMPLE: &[u8] = br#"["allow",{"user":"bo"},"publish",["bench/%c/set"]]
 ["deny","all","pubsub"]
 "#;
 
-const G7: Client<'static> = Client { id: b"g7", name: Some(b"bo"), password: None, address: None };
+const G7: Client<'static> = who(b"g7", Some(b"bo"));
+const G8: Client<'static> = who(b"g8", Some(b"cy"));
+const A: Client<'static> = who(b"a", None);
+
+/// A client with this id and this name, and nothing else.
+const fn who<'a>(id: &'a [u8], name: Option<&'a [u8]>) -> Client<'a> {
+    Client { id, name, password: None, address: None }
+}
 
 /// A store of the counts of `decide`.
 fn opened(rules: &[u8]) -> Store {
@@ -30,9 +37,9 @@ fn document_01_s_example() {
 
     assert_eq!(store.connect(EarlierConnect::None, G7, 4), Ok(Connect::Refuse { rule: 0 }));
     assert_eq!(publish(&store), dropped);
-    assert_eq!(store.connected(1, b"g7", Some(b"bo")), Ok(()));
+    assert_eq!(store.connected(1, G7), Ok(()));
     assert_eq!(publish(&store), Ok(Publish::Allow { rule: 1 }));
-    assert_eq!(store.disconnected(1, b"g7"), Ok(()));
+    assert_eq!(store.disconnected(1, G7), Ok(()));
     assert_eq!(publish(&store), dropped);
 
     // The note of the session is left; with its end the store is as opened.
@@ -147,13 +154,13 @@ fn refusals_by_number() {
     let connected = |rules: &[u8], session: u64, id: &[u8]| {
         let mut store = small(rules);
         let before = store.clone();
-        let answer = store.connected(session, id, None);
+        let answer = store.connected(session, who(id, None));
         assert!(answer.is_ok() || store == before);
         answer.map_err(Refusal::number)
     };
     assert_eq!(connected(b"", 0, &[b'a'; 65]), Err(1));
     assert_eq!(connected(b"", 256, b"a"), Err(2));
-    assert_eq!(Store::from_bytes(vec![0; 16]).connected(0, b"a", None).map_err(Refusal::number), Err(3));
+    assert_eq!(Store::from_bytes(vec![0; 16]).connected(0, A).map_err(Refusal::number), Err(3));
     assert_eq!(Counts::new(0, 1, 1, 1).map_err(Refusal::number), Err(4));
     assert_eq!(check_rule(b"[").map_err(Refusal::number), Err(5));
     assert_eq!(check_rule(b"[]").map_err(Refusal::number), Err(6));
@@ -192,8 +199,8 @@ fn a_store_of_another_length() {
         let mut store = Store::from_bytes(whole[..length].to_vec());
         let before = store.clone();
         assert_eq!(store.reopen(counts, EXAMPLE), Err(at(Refusal::Counts, 0)));
-        assert_eq!(store.connected(0, b"a", None), Err(Refusal::Malformed));
-        assert_eq!(store.disconnected(0, b"a"), Err(Refusal::Malformed));
+        assert_eq!(store.connected(0, A), Err(Refusal::Malformed));
+        assert_eq!(store.disconnected(0, A), Err(Refusal::Malformed));
         assert_eq!(store.ended(0), Err(Refusal::Malformed));
         assert_eq!(store.connect(EarlierConnect::NotAuthorized, G7, 4), Err(Refusal::Malformed));
         assert_eq!(store.subscribe(Earlier::None, G7, None, b"a", 0), Err(Refusal::Malformed));
@@ -233,11 +240,17 @@ fn lengths() {
             judge(store.connect(EarlierConnect::None, client, 4).err());
             judge(store.subscribe(Earlier::None, client, None, b"a", 0).err());
             judge(store.publish(Earlier::None, client, None, b"a", true).err());
-            if place == 0 {
-                judge(store.disconnected(1, client.id).err());
+            // Events look at the id, connected at the name too, and at nothing else.
+            let (left, came) = (store.disconnected(1, client).err(), store.connected(1, client).err());
+            match place {
+                0 => judge(left),
+                _ => assert_eq!(left, None),
+            }
+            match place {
+                0 | 1 => judge(came),
+                _ => assert_eq!(came, None),
             }
             if place < 2 {
-                judge(store.connected(1, client.id, client.name).err());
                 let own = AuthInfo { id: client.id, name: client.name, ..AuthInfo::default() };
                 judge(own.subscribe(b"a", 0).err().map(|r| r.refusal));
                 judge(own.publish(b"a", 0, false, false).err().map(|r| r.refusal));
@@ -266,8 +279,8 @@ fn numbers() {
             assert_eq!(call(over), Some(Refusal::OutOfRange), "{over}");
         }
     };
-    ok_then_2(255, &mut |n| store.connected(n, b"a", None).err());
-    ok_then_2(255, &mut |n| store.disconnected(n, b"a").err());
+    ok_then_2(255, &mut |n| store.connected(n, A).err());
+    ok_then_2(255, &mut |n| store.disconnected(n, A).err());
     ok_then_2(255, &mut |n| store.ended(n).err());
     ok_then_2(2, &mut |n| store.subscribe(Earlier::None, G7, None, b"a", n).err());
     ok_then_2(2, &mut |n| own.subscribe(b"a", n).err().map(|r| r.refusal));
@@ -296,8 +309,8 @@ fn empty_slices() {
     assert_eq!(identity(b"", Client::default(), None), Identity::NoRule);
 
     let mut store = opened(b"");
-    assert_eq!(store.connected(0, b"", Some(b"")), Ok(()));
-    assert_eq!(store.disconnected(0, b""), Ok(()));
+    assert_eq!(store.connected(0, who(b"", Some(b""))), Ok(()));
+    assert_eq!(store.disconnected(0, Client::default()), Ok(()));
     assert_eq!(store.connect(EarlierConnect::None, Client::default(), 0), Ok(Connect::Refuse { rule: 0 }));
     let refused = Publish::Refuse { rule: 0, disconnect: false };
     assert_eq!(store.publish(Earlier::None, Client::default(), None, b"", false), Ok(refused));
@@ -418,12 +431,12 @@ fn used_rows() {
     let mut store = Store::open(counts, TWO_AND_ONE).unwrap();
     let used = |store: &Store| store.used_rows().map(|rows| (rows.filters, rows.eqs, rows.notes));
     assert_eq!(used(&store), Some((0, 0, 0)));
-    assert_eq!(store.connected(1, b"g7", Some(b"bo")), Ok(()));
+    assert_eq!(store.connected(1, G7), Ok(()));
     assert_eq!(used(&store), Some((2, 1, 2)));
-    assert_eq!(store.connected(2, b"g8", Some(b"cy")), Ok(()));
+    assert_eq!(store.connected(2, G8), Ok(()));
     assert_eq!(used(&store), Some((4, 2, 4)));
-    assert_eq!(store.connected(3, b"g9", Some(b"di")), Err(Refusal::FiltersFull));
-    assert_eq!(store.disconnected(1, b"g7"), Ok(()));
+    assert_eq!(store.connected(3, who(b"g9", Some(b"di"))), Err(Refusal::FiltersFull));
+    assert_eq!(store.disconnected(1, G7), Ok(()));
     assert_eq!(used(&store), Some((2, 2, 4)));
     assert_eq!(store.ended(1), Ok(()));
     assert_eq!(used(&store), Some((2, 2, 2)));
@@ -436,18 +449,82 @@ fn used_rows() {
     assert_eq!(used(&Store::from_bytes(whole)), Some((2, 2, 2)));
 }
 
-/// Leaving under a session number that all share leaves what leaving under one of its own does.
+/// Two hosts, one with a number for each client, one with a number for all: after every coming and going their
+/// stores have the same bytes, but for the notes, and the shared number has none.
 #[test]
-fn leaves_alike() {
-    let mut own = opened(TWO_AND_ONE);
-    assert_eq!(own.connected(1, b"g7", Some(b"bo")), Ok(()));
-    assert_eq!(own.connected(2, b"g8", Some(b"cy")), Ok(()));
-    let mut shared = own.clone();
-    assert_eq!(own.disconnected(1, b"g7"), Ok(()));
-    assert_eq!(shared.connected(0, b"g7", Some(b"bo")), Ok(()));
-    assert_eq!(shared.disconnected(0, b"g7"), Ok(()));
-    assert_eq!(shared.ended(0), Ok(()));
-    assert_eq!(own, shared);
+fn two_hosts() {
+    let clients =
+        [G7, G8, who(b"+", Some(b"#")), who(b"", Some(b"")), who(b"$g", None), who(b"%u", Some(b"a+"))];
+    let (mut own, mut shared) = (opened(TWO_AND_ONE), opened(TWO_AND_ONE));
+    let notes = own.as_bytes().len() - 260 * 64;
+    let same_but_notes = |own: &Store, shared: &Store| {
+        let (own, shared) = (own.as_bytes(), shared.as_bytes());
+        own[..14] == shared[..14] && own[16..notes] == shared[16..notes]
+    };
+    let enter = |store: &mut Store, client| store.connected(0, client).and_then(|()| store.ended(0));
+    let leave = |store: &mut Store, client| {
+        store.connected(0, client)?;
+        store.disconnected(0, client)?;
+        store.ended(0)
+    };
+    let (mut present, mut turn) = ([false; 6], 1u32);
+    for _ in 0..500 {
+        turn = turn.wrapping_mul(1_103_515_245).wrapping_add(12_345);
+        let at = (turn >> 16) as usize % clients.len();
+        let (client, number) = (clients[at], 1 + at as u64);
+        if present[at] {
+            assert_eq!((own.disconnected(number, client), leave(&mut shared, client)), (Ok(()), Ok(())));
+            assert!(same_but_notes(&own, &shared));
+            assert_eq!(own.ended(number), Ok(()));
+        } else {
+            assert_eq!((own.connected(number, client), enter(&mut shared, client)), (Ok(()), Ok(())));
+        }
+        present[at] = !present[at];
+        assert!(same_but_notes(&own, &shared));
+        assert_eq!(shared.used_rows().unwrap().notes, 0);
+    }
+    // Without the connected before it, disconnected under the shared number clears nothing.
+    let mut store = opened(EXAMPLE);
+    let published = |store: &Store| store.publish(Earlier::None, G7, None, b"bench/g7/set", false);
+    assert_eq!(enter(&mut store, G7), Ok(()));
+    assert_eq!((store.disconnected(0, G7), store.ended(0)), (Ok(()), Ok(())));
+    assert_eq!(published(&store), Ok(Publish::Allow { rule: 1 }));
+    assert_eq!(leave(&mut store, G7), Ok(()));
+    assert_eq!(published(&store), Ok(Publish::Refuse { rule: 2, disconnect: false }));
+}
+
+/// Ids that widen a rule, and plain ones that take the user name in.
+#[test]
+fn widening() {
+    let may = |topic: &str, client: Client<'_>, asked: &[u8]| {
+        let mut store = opened(format!(r#"["allow","all","all",["{topic}"]]"#).as_bytes());
+        store.connected(0, client).unwrap();
+        store.publish(Earlier::None, client, None, asked, false) == Ok(Publish::Allow { rule: 1 })
+    };
+    assert!(may("bench/%c/#", who(b"+", None), b"bench/g7/a") && !may("bench/%c/#", G8, b"bench/g7/a"));
+    let named = |id| who(id, Some(b"g8"));
+    assert!(plain_name(b"%u") && plain_name(b"%"));
+    assert!(may("bench/%c/#", named(b"%u"), b"bench/g8/a") && !may("bench/%c/#", named(b"%"), b"bench/g8/a"));
+    assert!(may("bench/%cu/#", named(b"%"), b"bench/g8/a"));
+    assert!(may("bench/%%c/#", named(b"u"), b"bench/g8/a"));
+}
+
+/// `?` takes a refusal without a line for one with.
+#[test]
+fn one_error_for_all() {
+    fn entered(counts: [u64; 4], rules: &[u8], client: Client<'_>) -> Result<Store, LineRefusal> {
+        let [bytes, filters, eqs, notes] = counts;
+        let mut store = Store::open(Counts::new(bytes, filters, eqs, notes)?, rules)?;
+        store.connected(0, client)?;
+        Ok(store)
+    }
+    let one = [64, 1, 1, 1];
+    assert!(entered([128, 1, 1, 1], EXAMPLE, G7).is_ok());
+    assert_eq!(entered(one, EXAMPLE, G7).err(), Some(at(Refusal::TooLong, 0)));
+    assert_eq!(entered([0, 1, 1, 1], EXAMPLE, G7).err(), Some(at(Refusal::Counts, 0)));
+    assert_eq!(entered(one, b"[]", G7).err(), Some(at(Refusal::NotARule, 1)));
+    assert_eq!(entered(one, b"", who(&[b'a'; 65], None)).err(), Some(at(Refusal::TooLong, 0)));
+    assert_eq!(LineRefusal::from(Refusal::Unknown(11)), at(Refusal::Unknown(11), 0));
 }
 
 #[test]
@@ -455,6 +532,9 @@ fn refusals_are_told_in_words() {
     assert_eq!(Refusal::NotARule.to_string(), "error 6: not a rule");
     assert_eq!(at(Refusal::NotARule, 3).to_string(), "error 6: not a rule, line 3");
     assert_eq!(at(Refusal::Counts, 0).to_string(), "error 4: a count or the store's length is out of range");
+    assert_eq!(Refusal::Unknown(11).to_string(), "error 11: not known to this crate");
+    assert_eq!(at(Refusal::Unknown(11), 3).to_string(), "error 11: not known to this crate, line 3");
+    assert_eq!(Refusal::Unknown(0).to_string(), "what the library says is no answer");
     let secret = Client { password: Some(b"pw"), ..G7 };
     assert!(!format!("{secret:?}").contains("password"));
     assert_eq!(format!("{:?}", opened(EXAMPLE)), "Store { length: 47888, .. }");
