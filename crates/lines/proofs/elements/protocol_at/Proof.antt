@@ -1,6 +1,7 @@
 -- By the word `null`, and the number. Assumes nothing.
 use mathlib.Core.Path.{refl, sym, ap, _∙_}
 use mathlib.Core.Bool.{Bool, cond}
+use native.Mathlib.Omega.{arith}
 use borrow.Author.Tests.{le-leb, lt-leb}
 use denote.Ref.{now}
 use Rattle.rule.specs.declared.Protocol.the-variants.{Is as ProtocolIs}
@@ -35,7 +36,7 @@ returns-2 c =
     let n = c .before .before .n .given .0 .0 in
     sym
     (protocol-by (now (a .line)) (a .at) (sym (c .before .before .before .before .before .before .is-null .ensures) ∙ c .before .before .before .before .before .if1 .left) (sym (c .before .before .before .before .number-at .ensures) ∙ c .before .before .n .given .1)
-    ∙ ap (λ (b : Bool). cond b (ReadProtocol (ProtocolIs n)) BadProtocol) (lt-leb n 255 (c .if2 .taken)))
+    ∙ ap (λ (b : Bool). cond b (ReadProtocol (ProtocolIs n)) BadProtocol) (lt-leb n 255 (omega (arith, c .if2 .taken))))
 
 cast-t9 : tie.Need-cast-t9
 cast-t9 c = search needs
