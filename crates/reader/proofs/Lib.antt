@@ -1,2 +1,5 @@
 pub mod Apart
+pub mod Asking
 pub mod Going
+pub mod Moving
+pub mod One
