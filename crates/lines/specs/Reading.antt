@@ -2,13 +2,13 @@
 use Prim.Native.Nat.{ℕ}
 use mathlib.Core.Bool.{Bool, true, false, _&&_, not, cond}
 use mathlib.Core.List.{List}
-use mathlib.Core.Option.{Option, none, some}
+use mathlib.Core.Option.{Option, none}
 use lib.Dec.{ltb, leb}
 use lib.ListN.{length}
 use Rattle.text.specs.Ascii.{ascii}
 use Rattle.json.specs.Strings.{Decoded, stringAt}
 use Rattle.json.specs.Json.{isAt, skipBlanks, wordAt, lineValue}
-use Rattle.json.specs.Access.{stringIs, literalOf, copied, decodedInto, isDocument}
+use Rattle.json.specs.Access.{stringIs, literalOf, copied, isDocument}
 use Rattle.json.specs.declared.Literal.{Literal}
 use Rattle.json.specs.declared.Literal.the-variants.{Null, True, False, Bad}
 use Rattle.json.specs.declared.Place.{Place}

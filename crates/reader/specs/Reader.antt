@@ -33,7 +33,7 @@ offsetAfter line (suc n) = nextOffset line (offsetAfter line n)
 unfoldable pub elementAfter : List ℕ → ℕ → Place
 elementAfter line n = placeAt line (offsetAfter line n)
 
--- the first nine elements of the line's array
+-- the first nine elements of the line's array, where the line is a document; in any other bytes, places where one would begin
 unfoldable pub fieldsHere : List ℕ → Fields
 fieldsHere line =
     record {
