@@ -193,7 +193,8 @@ MQTT_ACL_MUST_USE uint8_t mqtt_acl_connected(uint8_t *store, size_t store_length
 
 /* Event: a client has disconnected. For each note of the session that is a valid filter, the client's filter rows that T-match it go;
    the notes stay. Answers 0 done, else the number: 1 id over 64 bytes; 2; 3. Its time grows with the client's rows times the session's
-   notes: 512 of each take 2 ms with short texts, at worst 0.7 s (docs/PERFORMANCE.md). Reads the id, reads and writes the store. */
+   notes: 512 of each take 1 ms with short texts, at worst 0.3 s; 4,096 of each 0.2 s, at worst 20 s (docs/PERFORMANCE.md). Reads the id,
+   reads and writes the store. */
 MQTT_ACL_MUST_USE uint8_t mqtt_acl_disconnected(uint8_t *store, size_t store_length, uint64_t session, const uint8_t *id, size_t id_length);
 
 /* Event: a session has ended. Drops its notes. Answers 0 done, else the number: 2, 3. Reads and writes the store. */
