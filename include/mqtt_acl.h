@@ -46,15 +46,16 @@
      connected and ended, and leaves by connected, disconnected and ended, one client at a time, with the name by which it came.
      Connected then finds its rows there, adds none and makes the notes anew, by which disconnected finds what to clear.
    - Proved of the two ways (crates/hosting/specs/Claims.antt): take two hosts, one that gives each client a number of its own and one
-     with a single number for all, whose stores hold the same rules and rows. When a client comes, connected and ended give the second
-     host's store the rows that connected gives the first's (EntersAlike). When it leaves, connected, disconnected and ended leave the
-     second's the rows that disconnected leaves the first's (LeavesAlike). The shared number has no notes before, and none afterwards.
-     Premises of leaving: the client's own number has the notes of its connected and no others, and the client's eq rows are there;
-     connected makes both so of a number without notes (Entered). The client leaves with the name by which it came.
+     with a single number for all, whose stores hold the same rules, filter rows and eq rows. When a client comes, connected and ended give
+     the second host's store the rows that connected gives the first's (EntersAlike). When it leaves, connected, disconnected and ended
+     leave the second's the rows that disconnected and ended leave the first's (LeavesAlike). The shared number has no notes before, and
+     none afterwards, and no more has the client's own. Premises of leaving: the client's own number has the notes of its connected and no
+     others, and the client's eq rows are there; connected makes both so of a number without notes (Entered). That events under other
+     numbers keep both so is plain, and not among the claims. The client leaves with the name by which it came.
      A disconnected right after a connected, under the same number, leaves none of the filter rows that this connected gives, whatever
      else the store holds (TakesBack): so a client that leaves under the shared number leaves none behind.
-     All this is of events that are not refused: where connected is, as by 10 for want of room for the notes, disconnected clears
-     nothing.
+     All this is of events that are not refused: where connected under the shared number is, as by 10 for want of room for the notes,
+     disconnected clears nothing, and the rows stay.
    - Rows belong to the id, not to the connection. On a take-over (a second connection with the same id) the old one leaves, as above,
      then the new one enters. A disconnected that is told late takes away the rows of the new one. If the new one is refused and the old
      one stays, the old one enters again.
@@ -81,7 +82,8 @@
      filters (mqtt_acl_filter_templates) and e under eq (mqtt_acl_eq_templates). Each is filled into one text, whoever the client is, and
      a connected adds at most f filter rows, e eq rows and f notes: both are proved (FilledOnce, Enough there). So F is f times the
      clients that are in at once. E is e times the pairs of id and name that came since the store was opened, every one: eq rows never
-     leave. N is f times the sessions that have not ended, or f where one number serves all. None of them is below 1.
+     leave. N is f times the sessions that have not ended, if each has one id and name, or f where one number serves all. None of them is
+     below 1.
      mqtt_acl_used_rows tells how many rows are used now. Calls check the whole store, unused rows too: tables of 4,096 empty rows cost
      on every question.
    - New rules without losing rows: open a second store, let everyone present enter it, and take it in place of the first if nothing was

@@ -1,5 +1,5 @@
 -- Document 01, Marked examples of matching and filling: "Proved together, a single claim over one list". The list and the claim.
-use Prim.Native.Nat.{ℕ, _-_}
+use Prim.Native.Nat.{ℕ, zero, suc, _-_}
 use Prim.Native.String.{String}
 use mathlib.Core.Bool.{Bool, true, false, _&&_, cond, Bool·beq}
 use mathlib.Core.List.{List, [], _∷_, _++_}
@@ -24,7 +24,7 @@ use Rattle.acl.specs.Decide.{counts, bo}
 
 -- T and P of a filter and a checked text; a template filled with a client id and a user name; a rule's protocol. Then lengths, each with
 -- the number of the refusal, 0 where it passes: a string of a rule, a member's name too; a text that connected fills, under `eq` too; the
--- topic of a subscribe and a publish. (A client's own rules have their list in crates/authinfo.)
+-- topic of a subscribe and a publish. (Those of a client's own rules are in crates/authinfo/proofs/Examples.antt.)
 pub data Example : Type 0 where
   T : String → String → Bool → Example
   P : String → String → Bool → Example
@@ -36,6 +36,11 @@ pub data Example : Type 0 where
 
 abbrev pub letters : ℕ → List ℕ
 letters n = replicate n 0x61
+
+-- so many letters, each as an escape of six bytes
+unfoldable pub escaped : ℕ → List ℕ
+escaped zero = []
+escaped (suc n) = ascii "\\u0061" ++ escaped n
 
 -- a rule with one topic, with one under `eq`, and one whose users have a member of this name
 abbrev pub ruleFor : List ℕ → List ℕ
@@ -51,13 +56,13 @@ memberRule name = ascii "[\"allow\",{\"" ++ (name ++ ascii "\":0}]")
 abbrev pub openedFor : List ℕ → Option View
 openedFor rules = cond (openable counts rules) (some (opened counts rules)) none
 
--- a template that has n bytes once it is filled for an id of 64 bytes and no name: two more after the first replacement
-abbrev pub filledTo : ℕ → List ℕ
-filledTo n = letters (n - 64) ++ ascii "%c%u"
+-- a template that has n bytes once it is filled for an id and a name of so many bytes together
+abbrev pub filledTo : ℕ → ℕ → List ℕ
+filledTo together n = letters (n - together) ++ ascii "%c%u"
 
--- the cause of a refusal where such a client connects
-abbrev pub connectedBy : List ℕ → Option ℕ
-connectedBy rules = cause (connected 1 (letters 64) none) (openedFor rules)
+-- the cause of a refusal where a client with an id of 64 bytes, and perhaps a name, connects
+abbrev pub connectedBy : Option (List ℕ) → List ℕ → Option ℕ
+connectedBy name rules = cause (connected 1 (letters 64) name) (openedFor rules)
 
 abbrev pub protocolIs : Result Rule → ℕ → Bool
 protocolIs (refused cause) n = false
@@ -81,8 +86,14 @@ holds (T filter text yes-or-no) = Bool·beq (treeMatch (ascii filter) (ascii tex
 holds (P filter text yes-or-no) = Bool·beq (plainMatch (ascii filter) (ascii text)) yes-or-no
 holds (Fills template id name result) = same (fill (ascii template) (ascii id) (some (ascii name))) (ascii result)
 holds (Protocol line n) = protocolIs (readRule (ascii line)) n
-holds (Decoded n refusal) = eqb (ofRule (readRule (ruleFor (letters n)))) refusal && eqb (ofRule (readRule (memberRule (letters n)))) refusal
-holds (FilledTo n refusal) = eqb (ofEvent (connectedBy (ruleFor (filledTo n)))) refusal && eqb (ofEvent (connectedBy (eqRuleFor (filledTo n)))) refusal
+holds (Decoded n refusal) =
+    eqb (ofRule (readRule (ruleFor (letters n)))) refusal
+    && (eqb (ofRule (readRule (ruleFor (escaped n)))) refusal && eqb (ofRule (readRule (memberRule (letters n)))) refusal)
+-- without a name the text is two bytes longer after the first replacement than after both
+holds (FilledTo n refusal) =
+    eqb (ofEvent (connectedBy none (ruleFor (filledTo 64 n)))) refusal
+    && (eqb (ofEvent (connectedBy none (eqRuleFor (filledTo 64 n)))) refusal
+    && eqb (ofEvent (connectedBy (some (letters 64)) (ruleFor (filledTo 128 n)))) refusal)
 holds (Asked n refusal) =
     eqb (ofReply (askView (subscribe 0 bo (letters n) 0) (openedFor []))) refusal
     && eqb (ofReply (askView (publish 0 bo (letters n) true) (openedFor []))) refusal

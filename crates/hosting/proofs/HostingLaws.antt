@@ -48,7 +48,7 @@ use Rattle.store.specs.declared.ShapeRead.the-variants.{LaidOut, Malformed as M
 use Rattle.hosting.specs.declared.Templates.{Templates}
 use Rattle.hosting.specs.declared.Used.the-variants.{Rows, Malformed}
 use Rattle.hosting.specs.Hosting.{isSpecial, noSpecial, templatesIn, templatesOf, lineTemplates, templates, usedIn}
-use Rattle.hosting.specs.Claims.{PlainFills, FilledOnce, Enough, TakesBack, enter, leave, Entered, EntersAlike, LeavesAlike}
+use Rattle.hosting.specs.Claims.{PlainFills, FilledOnce, Enough, TakesBack, depart, enter, leave, Entered, EntersAlike, LeavesAlike}
 
 -- ---- plain names
 
@@ -494,6 +494,10 @@ entered v own id name unused = (
         some-add-all eq-rows (same-eq r) (eqRows (v .text) id name) (v .eqs)
         ∙ (ap (λ (b : Bool). some-row (same-eq r) (v .eqs) || b) (present (same-eq r) m (eq-rows .itself r)) ∙ or-true (some-row (same-eq r) (v .eqs)))
 
+not-and : (b : Bool) → (b && not b) ≡ false
+not-and true = refl
+not-and false = refl
+
 -- the notes of a shared number that come and go
 notes-gone : (shared : ℕ) (text id : List ℕ) (name : Option (List ℕ)) (notes : List NoteRow) → some-row (ofSession shared) notes ≡ false
     → keep (λ n. not (ofSession shared n)) (add-all same-note (noteRows shared text id name) notes) ≡ notes
@@ -519,7 +523,7 @@ enters-alike v w own shared id name alike unused = (
 )
 
 pub leaves-alike : LeavesAlike
-unfolding leave effect filterChange noteChange newEqs change add-all clears cleared
+unfolding depart leave effect filterChange noteChange newEqs change add-all clears cleared
 leaves-alike v w own shared id name alike unused notes-are eqs-there = (
   record {
     text = alike .text;
@@ -530,6 +534,7 @@ leaves-alike v w own shared id name alike unused notes-are eqs-there = (
     eqs = (λ i. add-all same-eq (eqRows (alike .text i) id name) (alike .eqs i)) ∙ eqs-there;
   },
   notes-gone shared (w .text) id name (w .notes) unused,
+  some-keep (ofSession own) (λ n. not (ofSession own n)) (v .notes) ∙ none-rows (v .notes) (λ n m. not-and (ofSession own n)),
 )
   where
     clear-alike : (filter : List ℕ)

@@ -31,7 +31,7 @@ pub record Adds (v w : View) : Type 0 where
 abbrev pub Enough : Type 0
 Enough = (v : View) (session : ℕ) (id : List ℕ) (name : Option (List ℕ)) → Adds v (effect (connected session id name) v)
 
--- the rows that a client got when it came go when it leaves under the same number, whatever the store holds beside them
+-- the filter rows that a connected gives go by a disconnected right after it, under the same number, whatever the store holds beside them
 abbrev pub TakesBack : Type 0
 TakesBack =
     (v : View) (session : ℕ) (id : List ℕ) (name : Option (List ℕ)) →
@@ -39,6 +39,10 @@ TakesBack =
     (λ r. some-row (same-filter r) (filterRows (v .text) id name))
     (effect (disconnected session id) (effect (connected session id name) v) .filters)
     ≡ false
+
+-- leaving under a number of the client's own, which is free again afterwards
+unfoldable pub depart : ℕ → List ℕ → View → View
+depart own id v = effect (ended own) (effect (disconnected own id) v)
 
 -- coming under a session number that all clients share: the rows are made, the notes go
 unfoldable pub enter : ℕ → List ℕ → Option (List ℕ) → View → View
@@ -82,9 +86,9 @@ EntersAlike =
     (v w : View) (own shared : ℕ) (id : List ℕ) (name : Option (List ℕ)) → SameButNotes v w → Unused shared w →
     SameButNotes (effect (connected own id name) v) (enter shared id name w) × (enter shared id name w .notes ≡ w .notes)
 
--- and where it leaves, they keep the same rows
+-- and where it leaves, they keep the same rows, and its own number has no notes afterwards
 abbrev pub LeavesAlike : Type 0
 LeavesAlike =
     (v w : View) (own shared : ℕ) (id : List ℕ) (name : Option (List ℕ)) → SameButNotes v w → Unused shared w →
     NotesOf own id name v → EqsThere id name v →
-    SameButNotes (effect (disconnected own id) v) (leave shared id name w) × (leave shared id name w .notes ≡ w .notes)
+    SameButNotes (depart own id v) (leave shared id name w) × (leave shared id name w .notes ≡ w .notes) × Unused own (depart own id v)

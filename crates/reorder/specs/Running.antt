@@ -28,7 +28,7 @@ recordOf n [] records = 0
 recordOf n (m ∷ order) [] = 0
 recordOf n (m ∷ order) (r ∷ records) = cond (eqb m n) r (recordOf n order records)
 
--- is each event done in the one run if it is in the other? The orders of the two runs, each with what was recorded
+-- of two orders of the same events, each with what was recorded: is each event done in the one run exactly if it is in the other?
 unfoldable pub sameRefused : List ℕ → List ℕ → List ℕ → List ℕ → Bool
 sameRefused [] records other others = true
 sameRefused (n ∷ order) [] other others = true
@@ -47,7 +47,7 @@ keepsOne n (later ∷ order) = not (eqb later n) && (not (ltb later n && share (
 unfoldable pub fits : ℕ → List ℕ → Bool
 fits n order = not (eqb n 0) && (leb n 15 && keepsOne n order)
 
--- is it an order of events, each once, in which those that share a client id or a session number keep their order?
+-- is it an order of events, none twice, in which those that share a client id or a session number keep their order?
 unfoldable pub keeps : List ℕ → Bool
 keeps [] = true
 keeps (n ∷ order) = fits n order && keeps order

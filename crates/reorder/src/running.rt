@@ -60,7 +60,7 @@ fn record_of(n: u8, order: &[u8], records: &[u8]) -> u8
     0
 }
 
-// Is each event of a run refused there if it is in another run, by what was recorded of the two orders?
+// Of two orders of the same events, and what was recorded of them: is each event refused in the one run exactly if it is in the other?
 fn alike(order: &[u8], records: &[u8], other: &[u8], others: &[u8]) -> bool
     ensures { λ r. ⌜ r ≡ spec.sameRefused (now (order .entry)) (now (records .entry)) (now (other .entry)) (now (others .entry)) ⌝ }
 {
@@ -140,7 +140,7 @@ fn fits(order: &[u8], at: usize, n: u8) -> bool
     keeps_one(order, at, n)
 }
 
-// Is it an order of events, each once, in which those that share a client id or a session number keep their order?
+// Is it an order of events, none twice, in which those that share a client id or a session number keep their order?
 pub fn keeps(order: &[u8]) -> bool
     ensures { λ r. ⌜ r ≡ spec.keeps (now (order .entry)) ⌝ }
 {
