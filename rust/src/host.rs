@@ -17,7 +17,8 @@ pub fn plain_name(name: &[u8]) -> bool {
 /// [`Store::connected`](crate::Store::connected) adds at most `filters` filter rows, `eqs` eq rows and `filters`
 /// notes, whoever the client is. So F is `filters` times the clients that are in at once. E is `eqs` times the
 /// pairs of id and name that came since the store was opened, every one: eq rows never leave. N is `filters` times
-/// the sessions that have not ended, or `filters` where one number serves all. None of them is below 1.
+/// the sessions that have not ended, if each has one id and name, or `filters` where one number serves all. None
+/// of them is below 1.
 #[derive(Clone, Copy, Debug, PartialEq, Eq, Hash)]
 #[non_exhaustive]
 pub struct Templates {

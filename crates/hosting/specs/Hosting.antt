@@ -21,7 +21,7 @@ unfoldable pub noSpecial : List ℕ → Bool
 noSpecial [] = true
 noSpecial (b ∷ rest) = not (isSpecial b) && noSpecial rest
 
--- a client id or a user name that fills a template without a level or a wildcard more, and doesn't begin with `$`
+-- a client id or a user name without these bytes, that doesn't begin with `$` either
 unfoldable pub plainName : List ℕ → Bool
 plainName name = not (metadata name) && noSpecial name
 
