@@ -13,11 +13,11 @@
 //! - [`plain_name`], [`templates`], [`Store::used_rows`]: which ids to refuse, how large to make the tables, how
 //!   full they are.
 //!
-//! Texts are bytes, of any content. No call allocates but [`Store::open`] and a store's `clone`, and none keeps what
-//! it is lent; on the stack 24 KB will do. A refusal is an `Err` with document 01's number, and then nothing has changed; `?` takes
-//! one without a line for one with ([`LineRefusal`]). No call panics, whatever it is given and whatever the library
-//! answers: a number that isn't known is [`Refusal::Unknown`]. An empty slice may be lent everywhere: nothing is
-//! read from its address.
+//! Texts are bytes, of any content. No call allocates but [`Store::open`] and a store's `clone`, and none keeps
+//! what it is lent; on the stack 24 KB will do. A refusal is an `Err` with document 01's number, and then nothing
+//! has changed; `?` takes one without a line for one with ([`LineRefusal`]). No call panics, whatever it is given
+//! and whatever the library answers: a number that isn't known is [`Refusal::Unknown`]. An empty slice may be lent
+//! everywhere: nothing is read from its address.
 //!
 //! ```
 //! use mqtt_acl::{Client, Connect, Counts, Earlier, EarlierConnect, LineRefusal, Publish, Store};
