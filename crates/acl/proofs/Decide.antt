@@ -6,7 +6,7 @@ use mathlib.Core.List.{List, [], _∷_}
 use mathlib.Core.Option.{Option, none, some, bind}
 use lib.ListN.{length}
 use Rattle.text.specs.Text.{same, begins, contains, occurs, replaceFrom, replace}
-use Rattle.topic.specs.Topic.{extendFirst, withByte, levels, isOnly, wildcardFree, validLevels, validFilter, metadata, ends, passes, behind, takes, dollarRule, treeLevels, levelsIf, checkedLevels, treeMatch}
+use Rattle.topic.specs.Topic.{extendFirst, withByte, levels, isOnly, wildcardFree, validLevels, validFilter, metadata, ends, takesLevel, takes, dollarRule, levelsMatch, levelsIf, checkedLevels, treeMatch}
 use Rattle.json.specs.Lines.{extendLine, withByte as withByteOfLine, lines}
 use Rattle.json.specs.Utf8.{between, leadSize, second, tail, sequence, utf8}
 use Rattle.json.specs.Strings.{escape, rawPiece, pieceOf, grown, stringFrom, stringAt}
@@ -46,7 +46,7 @@ answers-plain (question q ∷ lines) s = ap (λ l. replies (askView q (view s)) 
 -- Open takes the rules, the store that it leaves is laid out, and the answers on what that means
 evaluated :
     (openFault counts rules 47888 ≡ none) × (wellFormed (opened counts rules) ≡ true) × (plain asked (some (opened counts rules)) ≡ answered)
-unfolding same begins contains occurs replaceFrom replace extendFirst withByte levels isOnly wildcardFree validLevels validFilter metadata ends passes behind takes dollarRule treeLevels levelsIf checkedLevels treeMatch extendLine withByteOfLine lines between leadSize second tail sequence utf8 escape rawPiece pieceOf grown stringFrom stringAt isAt isBlank blanks skipBlanks kindOf digits decimal plainNumber numberAt wordAt textAt readAs separatorAt itemsAt bracketAt elementAt nameAt memberAt arrayAt objectAt valueWith valueAt lineValue longest longestElement longestMember count some-row keep add add-all change distinct sound userMeans topicMeans means lower isWord nth named asText asNumber asBool asArray asObject member-named accessOf flag passwordOf userOf usersIn usersOf controlWord controlOf isTemplate topicOf topicsIn topicsOf ruleIn ruleOf orNothing fill fourthOver topicsOver orNotARule ruleFrom readRule faultIn textFault ruleOn rulesOf filledTopics listed filledRules filled ofKind first isText isNumber ifListed userAgrees agrees isListed userFlag superuser oneTo countsFit storeLength same-eq same-filter same-note openFault opened faultless openable wellFormed overGiven clientOver questionCause client keeps wish covers staticAgrees eqAgrees filterAgrees topicsAgree wishAgrees ruleAgrees firstFrom refusal allowance byRule orKept decide decided askView overName argumentCauses filledFilters filledEqs filterRows eqRows noteRows ofSession clears cleared filterChange newEqs noteChange effect storeCauses cause plainStep plain bind
+unfolding same begins contains occurs replaceFrom replace extendFirst withByte levels isOnly wildcardFree validLevels validFilter metadata ends takesLevel takes dollarRule levelsMatch levelsIf checkedLevels treeMatch extendLine withByteOfLine lines between leadSize second tail sequence utf8 escape rawPiece pieceOf grown stringFrom stringAt isAt isBlank blanks skipBlanks kindOf digits decimal plainNumber numberAt wordAt textAt readAs separatorAt itemsAt bracketAt elementAt nameAt memberAt arrayAt objectAt valueWith valueAt lineValue longest longestElement longestMember count some-row keep add add-all change distinct sound userMeans topicMeans means lower isWord nth named asText asNumber asBool asArray asObject member-named accessOf flag passwordOf userOf usersIn usersOf controlWord controlOf isTemplate topicOf topicsIn topicsOf ruleIn ruleOf orNothing fill fourthOver topicsOver orNotARule ruleFrom readRule faultIn textFault ruleOn rulesOf filledTopics listed filledRules filled ofKind first isText isNumber ifListed userAgrees agrees isListed userFlag superuser oneTo countsFit storeLength same-eq same-filter same-note openFault opened faultless openable wellFormed overGiven clientOver questionCause client keeps wish covers staticAgrees eqAgrees filterAgrees topicsAgree wishAgrees ruleAgrees firstFrom refusal allowance byRule orKept decide decided askView overName argumentCauses filledFilters filledEqs filterRows eqRows noteRows ofSession clears cleared filterChange newEqs noteChange effect storeCauses cause plainStep plain bind
 evaluated = (refl, refl, refl)
 
 -- what Open leaves where it has no cause

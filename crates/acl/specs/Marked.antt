@@ -1,4 +1,5 @@
--- Document 01, Marked examples of matching and filling: "Proved together, a single claim over one list". The list and the claim.
+-- Document 01, Marked examples of matching and filling: "Proved together, a single claim over one list". The list and the claim. Request b)
+-- of document 02: "P's marked lines in document 01 become yes, no and no".
 use Prim.Native.Nat.{ℕ, zero, suc, _-_}
 use Prim.Native.String.{String}
 use mathlib.Core.Bool.{Bool, true, false, _&&_, cond, Bool·beq}
@@ -110,8 +111,8 @@ examples =
     T "+" "a#" false ∷
     T "#" "$SYS/a" false ∷
     T "a/#" "a/$b" true ∷
-    P "a/#" "a/$b" false ∷
-    P "+" "$SYS/a/b" true ∷
+    P "a/#" "a/$b" true ∷
+    P "+" "$SYS/a/b" false ∷
     T "+" "$SYS/a/b" false ∷
     P "+/b" "$SYS/b" false ∷
     T "a/+" "a/#" true ∷

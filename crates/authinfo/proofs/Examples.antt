@@ -8,7 +8,7 @@ use mathlib.Core.Option.{none, some, bind}
 use lib.ListN.{replicate}
 use Rattle.text.specs.Ascii.{ascii}
 use Rattle.text.specs.Text.{same, begins, contains, occurs, replaceFrom, replace}
-use Rattle.topic.specs.Topic.{extendFirst, withByte, levels, isOnly, wildcardFree, validLevels, validFilter, metadata, ends, passes, behind, takes, plainMatch}
+use Rattle.topic.specs.Topic.{extendFirst, withByte, levels, isOnly, wildcardFree, validLevels, validFilter, metadata, ends, takesLevel, takes, dollarRule, levelsMatch, plainMatch}
 use Rattle.json.specs.Lines.{extendLine, withByte as withLineByte, lines}
 use Rattle.json.specs.Utf8.{between, leadSize, second, tail, sequence, utf8}
 use Rattle.json.specs.Strings.{escape, rawPiece, pieceOf, grown, stringFrom, stringAt}
@@ -152,5 +152,5 @@ examples =
     ∷ []
 
 pub evaluated : map (λ e. outcome (e .0)) examples ≡ map (λ e. e .1) examples
-unfolding same begins contains occurs replaceFrom replace extendFirst withByte levels isOnly wildcardFree validLevels validFilter metadata ends passes behind takes plainMatch extendLine withLineByte lines between leadSize second tail sequence utf8 escape rawPiece pieceOf grown stringFrom stringAt isAt isBlank blanks skipBlanks kindOf digits decimal plainNumber numberAt wordAt textAt readAs separatorAt itemsAt bracketAt elementAt nameAt memberAt arrayAt objectAt valueWith valueAt lineValue longest longestElement longestMember named asText asNumber asBool asArray member-named number permissionWord actionWord textNamed qosLevel qosIn qosValue qosOf topicOf ruleIn configured putIf fillFor filledTopic withTopic filledRule ruleFrom readLine qosAsked topicAsked covers among qosHits publishRetain retainHits topicHits hits withRule readLines firstHit allowance refusal byRule decision refuse onText nameOver causes firstFault ask overNanoseconds below expiryOver isExpired expiry bind
+unfolding same begins contains occurs replaceFrom replace extendFirst withByte levels isOnly wildcardFree validLevels validFilter metadata ends takesLevel takes dollarRule levelsMatch plainMatch extendLine withLineByte lines between leadSize second tail sequence utf8 escape rawPiece pieceOf grown stringFrom stringAt isAt isBlank blanks skipBlanks kindOf digits decimal plainNumber numberAt wordAt textAt readAs separatorAt itemsAt bracketAt elementAt nameAt memberAt arrayAt objectAt valueWith valueAt lineValue longest longestElement longestMember named asText asNumber asBool asArray member-named number permissionWord actionWord textNamed qosLevel qosIn qosValue qosOf topicOf ruleIn configured putIf fillFor filledTopic withTopic filledRule ruleFrom readLine qosAsked topicAsked covers among qosHits publishRetain retainHits topicHits hits withRule readLines firstHit allowance refusal byRule decision refuse onText nameOver causes firstFault ask overNanoseconds below expiryOver isExpired expiry bind
 evaluated = refl

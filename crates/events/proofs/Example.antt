@@ -6,7 +6,7 @@ use mathlib.Core.List.{List, [], _∷_}
 use mathlib.Core.Option.{none, bind}
 use Rattle.text.specs.Ascii.{ascii}
 use Rattle.text.specs.Text.{same, begins, contains, occurs, replaceFrom, replace}
-use Rattle.topic.specs.Topic.{extendFirst, withByte, levels, isOnly, wildcardFree, validLevels, validFilter, metadata, ends, passes, behind, takes, dollarRule, treeLevels, levelsIf, checkedLevels, treeMatch}
+use Rattle.topic.specs.Topic.{extendFirst, withByte, levels, isOnly, wildcardFree, validLevels, validFilter, metadata, ends, takesLevel, takes, dollarRule, levelsMatch, levelsIf, checkedLevels, treeMatch}
 use Rattle.json.specs.Lines.{extendLine, withByte as withByteOfLine, lines}
 use Rattle.json.specs.Utf8.{between, leadSize, second, tail, sequence, utf8}
 use Rattle.json.specs.Strings.{escape, rawPiece, pieceOf, grown, stringFrom, stringAt}
@@ -51,5 +51,5 @@ refusals (e ∷ es) s = refused e s ∷ refusals es (after e s)
 
 -- the second connect finds no room; nor does it after the disconnect, as the note is still there; it does once the session has ended
 which : refusals events (layout opened) ≡ false ∷ true ∷ false ∷ true ∷ false ∷ false ∷ true ∷ []
-unfolding same begins contains occurs replaceFrom replace extendFirst withByte levels isOnly wildcardFree validLevels validFilter metadata ends passes behind takes dollarRule treeLevels levelsIf checkedLevels treeMatch extendLine withByteOfLine lines between leadSize second tail sequence utf8 escape rawPiece pieceOf grown stringFrom stringAt isAt isBlank blanks skipBlanks kindOf digits decimal plainNumber numberAt wordAt textAt readAs separatorAt itemsAt bracketAt elementAt nameAt memberAt arrayAt objectAt valueWith valueAt lineValue longest longestElement longestMember count some-row keep add add-all change distinct sound u16 number rows join first userMeans topicMeans means lower isWord nth named asText asNumber asBool asArray asObject member-named accessOf flag passwordOf userOf usersIn usersOf controlWord controlOf isTemplate topicOf topicsIn topicsOf ruleIn ruleOf orNothing fill fourthOver topicsOver orNotARule ruleFrom readRule faultIn textFault ruleOn rulesOf filledTopics listed filledRules filled ofKind oneTo countsFit same-eq same-filter same-note pad field filterText filterOwner filterCodec numberedText numberedCodec putAll getAll area header layout counts textUsed filtersUsed eqsUsed notesUsed filtersAt eqsAt notesAt textPart filterPart eqPart notePart readLayout faultless openable rules badEq badFilter badNote wellFormed view overName argumentCauses filledFilters filledEqs filterRows eqRows noteRows ofSession clears cleared filterChange newEqs noteChange effect storeCauses cause stored after refused bind
+unfolding same begins contains occurs replaceFrom replace extendFirst withByte levels isOnly wildcardFree validLevels validFilter metadata ends takesLevel takes dollarRule levelsMatch levelsIf checkedLevels treeMatch extendLine withByteOfLine lines between leadSize second tail sequence utf8 escape rawPiece pieceOf grown stringFrom stringAt isAt isBlank blanks skipBlanks kindOf digits decimal plainNumber numberAt wordAt textAt readAs separatorAt itemsAt bracketAt elementAt nameAt memberAt arrayAt objectAt valueWith valueAt lineValue longest longestElement longestMember count some-row keep add add-all change distinct sound u16 number rows join first userMeans topicMeans means lower isWord nth named asText asNumber asBool asArray asObject member-named accessOf flag passwordOf userOf usersIn usersOf controlWord controlOf isTemplate topicOf topicsIn topicsOf ruleIn ruleOf orNothing fill fourthOver topicsOver orNotARule ruleFrom readRule faultIn textFault ruleOn rulesOf filledTopics listed filledRules filled ofKind oneTo countsFit same-eq same-filter same-note pad field filterText filterOwner filterCodec numberedText numberedCodec putAll getAll area header layout counts textUsed filtersUsed eqsUsed notesUsed filtersAt eqsAt notesAt textPart filterPart eqPart notePart readLayout faultless openable rules badEq badFilter badNote wellFormed view overName argumentCauses filledFilters filledEqs filterRows eqRows noteRows ofSession clears cleared filterChange newEqs noteChange effect storeCauses cause stored after refused bind
 which = refl

@@ -12,7 +12,7 @@ use lib.Dec.{eqb, leb}
 use lib.ListN.{length, take, drop, set, length-drop, length-set, length-map, take-append-drop, drop-of-length-le}
 use lib.Seq.{drop-drop, take-at, take-suc-set, drop-set-lt}
 use Rattle.text.specs.Text.{same, pasted}
-use Rattle.topic.specs.Topic.{levels, levelsIf, checkedLevels, treeLevels, validFilter, treeMatch}
+use Rattle.topic.specs.Topic.{levels, levelsIf, checkedLevels, levelsMatch, validFilter, treeMatch}
 use Rattle.topic.specs.Walk.{beginsApart}
 use Rattle.topic.proofs.Apart.{apart-no-match}
 use Rattle.table.specs.Table.{some-row, keep, add-all, change}
@@ -43,12 +43,12 @@ pub text-apart : (filter note : List ℕ) → beginsApart filter note ≡ true �
 text-apart filter note e = ap (λ (b : Bool). validFilter note && b) (apart-no-match filter note e) ∙ and-false (validFilter note)
 
 -- T of a note that is taken for valid
-pub text-known : (filter note : List ℕ) {told : Bool} → treeLevels (levels filter) (levelsIf true note) ≡ told
+pub text-known : (filter note : List ℕ) {told : Bool} → levelsMatch (levels filter) (levelsIf true note) ≡ told
     → (validFilter note && treeMatch filter note) ≡ (validFilter note && told)
 unfolding treeMatch checkedLevels
 text-known filter note {told} e = by (validFilter note)
   where
-    by : (valid : Bool) → (valid && treeLevels (levels filter) (levelsIf valid note)) ≡ (valid && told)
+    by : (valid : Bool) → (valid && levelsMatch (levels filter) (levelsIf valid note)) ≡ (valid && told)
     by true = e
     by false = refl
 

@@ -3,7 +3,7 @@ use Prim.Native.Nat.{ℕ, zero, suc, _+_, _-_, _≤_, _<_}
 use native.Mathlib.Numerals.{add-one}
 use native.Mathlib.Omega.{arith}
 use mathlib.Core.Path.{_≡_, refl, sym, ap, _∙_}
-use mathlib.Core.Bool.{Bool, true, false, _&&_, _||_, not, cond, Bool·beq, true≢false, and-true, and-false, or-true}
+use mathlib.Core.Bool.{Bool, true, false, _&&_, _||_, not, cond, Bool·beq, true≢false, and-false, or-true}
 use mathlib.Core.List.{List, [], _∷_, _++_, map, List·Memᴰ}
 use mathlib.Core.Option.{Option, none, some, bind}
 use borrow.Author.Tests.{eq-eqb, ne-eqb, eqb-true, ltb-false}
@@ -15,8 +15,7 @@ use types.Run.{OneOf, miss}
 use Rattle.text.specs.Ascii.{ascii}
 use Rattle.text.specs.Text.{same, begins, occurs, replaceFrom, replace}
 use Rattle.text.proofs.Laws.{and-split, or-split, isnt, same-itself, begins-take}
-use Rattle.topic.specs.Topic.{Level, plus, hash, levels, isOnly, isPlus, isHash, metadata, ends, passes, behind, takes, dollarRule, treeLevels, levelsIf, checkedLevels, treeMatch, validFilter}
-use Rattle.topic.specs.declared.Passed.the-variants.{Onward, Answer}
+use Rattle.topic.specs.Topic.{Level, plus, hash, levels, isOnly, isPlus, isHash, metadata, ends, takesLevel, takes, dollarRule, levelsMatch, levelsIf, checkedLevels, treeMatch, validFilter}
 use Rattle.table.specs.Table.{some-row, keep, add, add-all, adds, change}
 use Rattle.table.proofs.TableLaws.{some-keep, some-map, some-on, present, none as none-rows, none-at, none-of, member, length-keep, some-add-all}
 use Rattle.json.specs.Lines.{lines, lineAt, nextLine}
@@ -404,16 +403,10 @@ not-both (b ∷ level) = at (eqb b plus) (eqb b hash) refl refl
     at false true q r = let is = eqb-true b hash r in ap (λ (c : ℕ). (((false && same level []) || (true && same level [])) && eqb c 36)) is ∙ and-false ((false && same level []) || (true && same level []))
     at false false q r = refl
 
-takes-itself : (ls : List Level) → takes false ls ls ≡ true
-unfolding takes ends passes behind
+takes-itself : (ls : List Level) → takes ls ls ≡ true
+unfolding takes ends takesLevel
 takes-itself [] = refl
-takes-itself (l ∷ ls) = at (isHash l) (isPlus l) (takes-itself ls)
-  where
-    at : (multi single : Bool) → takes false ls ls ≡ true
-        → behind (cond multi (Answer true) (cond single Onward (cond (same l l) Onward (Answer false)))) (ends ls) (takes false ls ls) ≡ true
-    at true single h = refl
-    at false true h = h
-    at false false h = rw (same-itself l) h
+takes-itself (l ∷ ls) = rw (same-itself l, takes-itself ls, or-true, or-true)
 
 no-dollar : (ls : List Level) → dollarRule ls ls ≡ false
 unfolding dollarRule
@@ -422,7 +415,7 @@ no-dollar (l ∷ ls) = not-both l
 
 -- a valid filter T-matches itself
 pub tree-itself : (filter : List ℕ) → validFilter filter ≡ true → treeMatch filter filter ≡ true
-unfolding treeMatch checkedLevels levelsIf treeLevels
+unfolding treeMatch checkedLevels levelsIf levelsMatch
 tree-itself filter h = rw (h, takes-itself (levels filter), no-dollar (levels filter)) refl
 
 -- of filled texts, those that clear a filter

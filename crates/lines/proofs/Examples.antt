@@ -8,7 +8,7 @@ use mathlib.Core.Option.{none, some, bind}
 use mathlib.Core.Path.{_≡_, refl}
 use Rattle.text.specs.Ascii.{ascii}
 use Rattle.text.specs.Text.{same, begins, contains, occurs, replaceFrom, replace}
-use Rattle.topic.specs.Topic.{extendFirst, withByte, levels, isOnly, wildcardFree, validLevels, validFilter, metadata, ends, passes, behind, takes, plainMatch}
+use Rattle.topic.specs.Topic.{extendFirst, withByte, levels, isOnly, wildcardFree, validLevels, validFilter, metadata, ends, takesLevel, takes, dollarRule, levelsMatch, plainMatch}
 use Rattle.json.specs.Lines.{extendLine, withByte as withLineByte, lines}
 use Rattle.json.specs.Utf8.{between, leadSize, second, tail, sequence, utf8}
 use Rattle.json.specs.Strings.{escape, rawPiece, pieceOf, grown, stringFrom, stringAt}
@@ -116,5 +116,5 @@ questions =
     ∷ []
 
 pub questions-answered : map (λ q. clientSaid (ascii (q .0 .0)) (q .0 .1) (ascii (q .0 .2))) questions ≡ map (λ q. q .1) questions
-unfolding same begins contains occurs replaceFrom replace extendFirst withByte levels isOnly wildcardFree validLevels validFilter metadata ends passes behind takes plainMatch extendLine withLineByte lines between leadSize second tail sequence utf8 escape rawPiece pieceOf grown stringFrom stringAt isAt isBlank blanks skipBlanks kindOf digits numberOf plainNumber numberAt wordAt textAt readAs separatorAt itemsAt bracketAt elementAt nameAt memberAt arrayAt objectAt valueWith valueAt lineValue longest longestElement longestMember count named nth asText asNumber asBool asArray member-named number permissionWord actionWord textNamed qosLevel qosIn qosValue qosOf topicOf ruleIn configured putIf fillFor filledTopic withTopic filledRule ruleFrom readLine qosAsked topicAsked covers among qosHits publishRetain retainHits topicHits hits withRule readLines firstHit allowance refusal byRule decision refuse onText nameOver causes firstFault ask bind asString isNull orNull having says refusedAt refusedWith elementsOf arrayOf clientIn subscribeIn publishIn questionBy questionIn decisionSaid replySaid questionSaid askedBy clientSaid text-of
+unfolding same begins contains occurs replaceFrom replace extendFirst withByte levels isOnly wildcardFree validLevels validFilter metadata ends takesLevel takes dollarRule levelsMatch plainMatch extendLine withLineByte lines between leadSize second tail sequence utf8 escape rawPiece pieceOf grown stringFrom stringAt isAt isBlank blanks skipBlanks kindOf digits numberOf plainNumber numberAt wordAt textAt readAs separatorAt itemsAt bracketAt elementAt nameAt memberAt arrayAt objectAt valueWith valueAt lineValue longest longestElement longestMember count named nth asText asNumber asBool asArray member-named number permissionWord actionWord textNamed qosLevel qosIn qosValue qosOf topicOf ruleIn configured putIf fillFor filledTopic withTopic filledRule ruleFrom readLine qosAsked topicAsked covers among qosHits publishRetain retainHits topicHits hits withRule readLines firstHit allowance refusal byRule decision refuse onText nameOver causes firstFault ask bind asString isNull orNull having says refusedAt refusedWith elementsOf arrayOf clientIn subscribeIn publishIn questionBy questionIn decisionSaid replySaid questionSaid askedBy clientSaid text-of
 questions-answered = refl

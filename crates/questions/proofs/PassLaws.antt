@@ -9,7 +9,7 @@ use mathlib.Core.Option.{Option, none, some, bind}
 use lib.Dec.{ltb}
 use lib.ListN.{length, take, drop}
 use Rattle.text.specs.Text.{same}
-use Rattle.topic.specs.Topic.{levels, levelsIf, validFilter, treeLevels, checkedLevels, treeMatch}
+use Rattle.topic.specs.Topic.{levels, levelsIf, validFilter, levelsMatch, checkedLevels, treeMatch}
 use Rattle.json.specs.Json.{text, separatorAt, depthLimit, lineValue}
 use Rattle.json.specs.Access.{nextItem}
 use Rattle.json.specs.Lines.{lines, lineAt, lineBehind, nextLine}
@@ -52,9 +52,9 @@ use Rattle.questions.proofs.DecisionLaws.{some-by}
 -- ---- a filter as it stands
 
 -- T of a topic whose validity is known
-pub known-match : (filter topic : List ℕ) {valid : Bool} → valid ≡ validFilter topic → treeLevels (levels filter) (levelsIf valid topic) ≡ treeMatch filter topic
+pub known-match : (filter topic : List ℕ) {valid : Bool} → valid ≡ validFilter topic → levelsMatch (levels filter) (levelsIf valid topic) ≡ treeMatch filter topic
 unfolding treeMatch checkedLevels
-known-match filter topic e = ap (λ (b : Bool). treeLevels (levels filter) (levelsIf b topic)) e
+known-match filter topic e = ap (λ (b : Bool). levelsMatch (levels filter) (levelsIf b topic)) e
 
 -- by its tests
 pub text-by : (topic t : List ℕ) {match long template fine : Bool} → treeMatch t topic ≡ match → over textLimit t ≡ long → isTemplate t ≡ template → validFilter t ≡ fine

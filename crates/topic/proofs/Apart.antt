@@ -1,16 +1,15 @@
 -- Texts that differ at a byte up to which the filter has no wildcard: the levels of that byte differ. Assumes nothing.
 use Prim.Native.Nat.{ℕ, _+_, _<_, _≤_}
 use native.Mathlib.Numerals.{add-one}
-use native.Mathlib.Omega.{arith}
 use mathlib.Core.Path.{_≡_, refl, sym, ap, _∙_}
-use mathlib.Core.Bool.{Bool, true, false, _&&_, _||_, not, cond, true≢false, and-false}
+use mathlib.Core.Bool.{Bool, true, false, _&&_, not, cond, true≢false, and-false}
 use mathlib.Core.List.{List, [], _∷_}
 use lib.Dec.{eqb}
 use lib.ListN.{length, getD, drop, drop-of-length-le}
 use lib.Seq.{drop-cons}
-use borrow.Author.Tests.{eqb-true, eq-eqb, ne-eqb}
+use borrow.Author.Tests.{eqb-true, eq-eqb}
 use Rattle.text.specs.Text.{same}
-use Rattle.topic.specs.Topic.{Level, slash, plus, hash, levels, levelsIf, isOnly, isPlus, isHash, metadata, ends, passes, behind, takes, dollarRule, treeLevels, validFilter, checkedLevels, treeMatch}
+use Rattle.topic.specs.Topic.{Level, slash, plus, hash, levels, levelsIf, isOnly, isPlus, isHash, ends, takesLevel, takes, dollarRule, levelsMatch, validFilter, checkedLevels, treeMatch}
 use Rattle.topic.specs.Walk.{beginsApart}
 use Rattle.topic.proofs.Scan.{Leveled, nil, start, inside, leveled, leveled-levels}
 
@@ -72,17 +71,13 @@ no-plus [] (inside p d) e = absurd (true≢false (sym e))
 no-plus (t ∷ text) (inside {b} {text = filter} p d) e = rw (first b t filter text e .single)
 
 -- a level that is no wildcard takes its equal
-plain-takes : (f l : Level) (fs ls : List Level) → isHash f ≡ false → isPlus f ≡ false → takes false (f ∷ fs) (l ∷ ls) ≡ (same f l && takes false fs ls)
-unfolding takes passes behind
-plain-takes f l fs ls h p = by (same f l) refl
-  where
-    by : (b : Bool) → same f l ≡ b → takes false (f ∷ fs) (l ∷ ls) ≡ (b && takes false fs ls)
-    by true e = rw (h, p, e)
-    by false e = rw (h, p, e)
+plain-takes : (f l : Level) (fs ls : List Level) → isHash f ≡ false → isPlus f ≡ false → takes (f ∷ fs) (l ∷ ls) ≡ (same f l && takes fs ls)
+unfolding takes takesLevel
+plain-takes f l fs ls h p = rw (h, p)
 
 -- the first levels differ, or what is behind them doesn't match
 apart-rest : {filter text : List ℕ} {f l : Level} {fs ls : List Level} → Leveled filter f fs → Leveled text l ls → beginsApart filter text ≡ true
-    → (same f l && takes false fs ls) ≡ false
+    → (same f l && takes fs ls) ≡ false
 unfolding beginsApart same
 apart-rest nil c e = absurd (true≢false (sym e))
 apart-rest (start p d) nil e = absurd (true≢false (sym e))
@@ -95,30 +90,30 @@ apart-rest (inside p d) (start q c) e = refl
 apart-rest (inside {b} {text = filter} {level = f} {rest = fs} p d) (inside {b = t} {text = text} {level = l} {rest = ls} q c) e =
     by (eqb b t) refl (λ a. apart-rest d c (first b t filter text e .rest a))
   where
-    by : (alike : Bool) → eqb b t ≡ alike → (eqb b t ≡ true → (same f l && takes false fs ls) ≡ false) → ((eqb b t && same f l) && takes false fs ls) ≡ false
+    by : (alike : Bool) → eqb b t ≡ alike → (eqb b t ≡ true → (same f l && takes fs ls) ≡ false) → ((eqb b t && same f l) && takes fs ls) ≡ false
     by true a h = rw a (h a)
     by false a h = rw a
 
 apart-taken : {filter text : List ℕ} {f l : Level} {fs ls : List Level} → Leveled filter f fs → Leveled text l ls → beginsApart filter text ≡ true
-    → treeLevels (f ∷ fs) (l ∷ ls) ≡ false
-unfolding treeLevels
+    → levelsMatch (f ∷ fs) (l ∷ ls) ≡ false
+unfolding levelsMatch
 apart-taken {text = text} {f} {l} {fs} {ls} d c e =
     ap (λ (b : Bool). not (dollarRule (f ∷ fs) (l ∷ ls)) && b) (plain-takes f l fs ls (no-hash text d e) (no-plus text d e) ∙ apart-rest d c e) ∙ and-false (not (dollarRule (f ∷ fs) (l ∷ ls)))
 
-apart-ends : {filter : List ℕ} (text : List ℕ) {f : Level} {fs : List Level} → Leveled filter f fs → beginsApart filter text ≡ true → treeLevels (f ∷ fs) [] ≡ false
-unfolding treeLevels dollarRule takes ends
+apart-ends : {filter : List ℕ} (text : List ℕ) {f : Level} {fs : List Level} → Leveled filter f fs → beginsApart filter text ≡ true → levelsMatch (f ∷ fs) [] ≡ false
+unfolding levelsMatch dollarRule takes ends
 apart-ends text d e = no-hash text d e
 
-pub apart-differs : (filter text : List ℕ) (valid : Bool) → beginsApart filter text ≡ true → treeLevels (levels filter) (levelsIf valid text) ≡ false
+pub apart-differs : (filter text : List ℕ) (valid : Bool) → beginsApart filter text ≡ true → levelsMatch (levels filter) (levelsIf valid text) ≡ false
 unfolding levelsIf
 apart-differs filter text valid e = at valid
   where
-    at : (v : Bool) → treeLevels (levels filter) (cond v (levels text) []) ≡ false
+    at : (v : Bool) → levelsMatch (levels filter) (cond v (levels text) []) ≡ false
     at true =
         let f = leveled filter in
         let l = leveled text in
-        (λ i. treeLevels (leveled-levels (f .2) i) (leveled-levels (l .2) i)) ∙ apart-taken (f .2) (l .2) e
-    at false = let f = leveled filter in ap (λ (fs : List Level). treeLevels fs []) (leveled-levels (f .2)) ∙ apart-ends text (f .2) e
+        (λ i. levelsMatch (leveled-levels (f .2) i) (leveled-levels (l .2) i)) ∙ apart-taken (f .2) (l .2) e
+    at false = let f = leveled filter in ap (λ (fs : List Level). levelsMatch fs []) (leveled-levels (f .2)) ∙ apart-ends text (f .2) e
 
 -- so T says no
 pub apart-no-match : (filter text : List ℕ) → beginsApart filter text ≡ true → treeMatch filter text ≡ false

@@ -1,5 +1,5 @@
--- The worked examples of section 4.7 of OASIS MQTT, evaluated, and two of them as statements about `Matches` of specs/Mqtt47.antt: it
--- has members, and not all are. Document 01's marked examples are in crates/acl, in one list. Assumes nothing.
+-- The worked examples of section 4.7 of OASIS MQTT and the traps of request b), evaluated, and two as statements about `Matches` of
+-- specs/Mqtt47.antt: it has members, and not all are. Document 01's marked examples are in crates/acl, in one list. Assumes nothing.
 use Prim.Native.Nat.{ℕ, zero, suc}
 use Prim.Native.String.{String}
 use mathlib.Core.Bool.{Bool, true, false, _&&_, not, Bool·beq, true≢false, and-eq-true-iff}
@@ -11,20 +11,28 @@ use lib.ListN.{length}
 use borrow.Author.Tests.{eq-eqb, leb-true, not-true}
 use Rattle.text.specs.Ascii.{ascii}
 use Rattle.text.specs.Text.{same}
-use Rattle.topic.specs.Topic.{extendFirst, withByte, levels, isOnly, wildcardFree, validLevels, validFilter, metadata, ends, passes, behind, takes, dollarRule, treeLevels, levelsIf, checkedLevels, treeMatch, plainMatch}
+use Rattle.topic.specs.Topic.{extendFirst, withByte, levels, isOnly, wildcardFree, validLevels, validFilter, metadata, ends, takesLevel, takes, dollarRule, levelsMatch, levelsIf, checkedLevels, treeMatch, plainMatch}
 use Rattle.topic.specs.Mqtt47.{multi, single, At, Characters, Filter, Name, Matches}
 use Rattle.topic.proofs.Oasis.{filter-47, tree-47}
 
--- is the text a valid filter? Does the filter take the text, by T or by P? Each with the document's answer
+-- is the text a valid filter? Does the filter take the text, by T, by P, by both? Each with the document's answer
 pub data Example : Type 0 where
   Valid : String → Bool → Example
   T : String → String → Bool → Example
   P : String → String → Bool → Example
+  Both : String → String → Bool → Example
+
+abbrev pub takenByT : String → String → Bool → Bool
+takenByT filter text answer = Bool·beq (treeMatch (ascii filter) (ascii text)) answer
+
+abbrev pub takenByP : String → String → Bool → Bool
+takenByP filter text answer = Bool·beq (plainMatch (ascii filter) (ascii text)) answer
 
 abbrev pub holds : Example → Bool
 holds (Valid text answer) = Bool·beq (validFilter (ascii text)) answer
-holds (T filter text answer) = Bool·beq (treeMatch (ascii filter) (ascii text)) answer
-holds (P filter text answer) = Bool·beq (plainMatch (ascii filter) (ascii text)) answer
+holds (T filter text answer) = takenByT filter text answer
+holds (P filter text answer) = takenByP filter text answer
+holds (Both filter text answer) = takenByT filter text answer && takenByP filter text answer
 
 abbrev pub all-hold : List Example → Bool
 all-hold [] = true
@@ -33,44 +41,75 @@ all-hold (e ∷ es) = holds e && all-hold es
 -- section 4.7, by its own order
 abbrev pub mqtt-47-examples : List Example
 mqtt-47-examples =
-    T "sport/tennis/player1/#" "sport/tennis/player1" true ∷
-    T "sport/tennis/player1/#" "sport/tennis/player1/ranking" true ∷
-    T "sport/tennis/player1/#" "sport/tennis/player1/score/wimbledon" true ∷
-    T "sport/#" "sport" true ∷
+    Both "sport/tennis/player1/#" "sport/tennis/player1" true ∷
+    Both "sport/tennis/player1/#" "sport/tennis/player1/ranking" true ∷
+    Both "sport/tennis/player1/#" "sport/tennis/player1/score/wimbledon" true ∷
+    Both "sport/#" "sport" true ∷
     Valid "#" true ∷
     Valid "sport/tennis/#" true ∷
     Valid "sport/tennis#" false ∷
     Valid "sport/tennis/#/ranking" false ∷
-    T "sport/tennis/+" "sport/tennis/player1" true ∷
-    T "sport/tennis/+" "sport/tennis/player1/ranking" false ∷
-    T "sport/+" "sport" false ∷
-    T "sport/+" "sport/" true ∷
+    Both "sport/tennis/+" "sport/tennis/player1" true ∷
+    Both "sport/tennis/+" "sport/tennis/player1/ranking" false ∷
+    Both "sport/+" "sport" false ∷
+    Both "sport/+" "sport/" true ∷
     Valid "+" true ∷
     Valid "+/tennis/#" true ∷
     Valid "sport+" false ∷
     Valid "sport/+/player1" true ∷
-    T "+/+" "/finance" true ∷
-    T "/+" "/finance" true ∷
-    T "+" "/finance" false ∷
-    T "#" "$SYS/monitor/Clients" false ∷
-    T "+/monitor/Clients" "$SYS/monitor/Clients" false ∷
-    T "$SYS/#" "$SYS/monitor/Clients" true ∷
-    T "$SYS/monitor/+" "$SYS/monitor/Clients" true ∷
-    T "ACCOUNTS" "Accounts" false ∷
-    T "Accounts payable" "Accounts payable" true ∷
-    T "/finance" "finance" false ∷
-    T "finance" "/finance" false ∷
-    T "finance/" "finance" false ∷
-    T "finance" "finance/" false ∷
+    Both "+/+" "/finance" true ∷
+    Both "/+" "/finance" true ∷
+    Both "+" "/finance" false ∷
+    Both "#" "$SYS/monitor/Clients" false ∷
+    Both "+/monitor/Clients" "$SYS/monitor/Clients" false ∷
+    Both "$SYS/#" "$SYS/monitor/Clients" true ∷
+    Both "$SYS/monitor/+" "$SYS/monitor/Clients" true ∷
+    Both "ACCOUNTS" "Accounts" false ∷
+    Both "Accounts payable" "Accounts payable" true ∷
+    Both "/finance" "finance" false ∷
+    Both "finance" "/finance" false ∷
+    Both "finance/" "finance" false ∷
+    Both "finance" "finance/" false ∷
     Valid "/" true ∷
-    T "/" "/" true ∷
-    P "sport/#" "sport" true ∷
-    P "+" "/finance" false ∷
+    Both "/" "/" true ∷
+    []
+
+-- request b) of document 02: only a leading wildcard shies from `$`, and only from the first level
+abbrev pub dollar-examples : List Example
+dollar-examples =
+    Both "bench/g7/#" "bench/g7/$step" true ∷
+    Both "+" "$SYS/a/b" false ∷
+    Both "+" "$" false ∷
+    Both "+/#" "$" false ∷
+    Both "a/+" "a/$" true ∷
+    Both "/+" "/$/" false ∷
+    Both "/+/" "/$/" true ∷
+    Both "/#" "/$" true ∷
+    Both "#" "a/$b" true ∷
+    Both "$a/#" "$a" true ∷
+    Both "$a/+" "$a/$b" true ∷
+    []
+
+-- P is not T: a checked text that is no valid filter has its levels in P, and none in T
+abbrev pub invalid-examples : List Example
+invalid-examples =
+    P "+" "a+" true ∷
+    T "+" "a+" false ∷
+    P "#" "$a+" false ∷
+    T "#" "$a+" true ∷
     []
 
 pub mqtt-47 : all-hold mqtt-47-examples ≡ true
-unfolding same extendFirst withByte levels isOnly wildcardFree validLevels validFilter metadata ends passes behind takes dollarRule treeLevels levelsIf checkedLevels treeMatch plainMatch
+unfolding same extendFirst withByte levels isOnly wildcardFree validLevels validFilter metadata ends takesLevel takes dollarRule levelsMatch levelsIf checkedLevels treeMatch plainMatch
 mqtt-47 = refl
+
+pub dollar : all-hold dollar-examples ≡ true
+unfolding same extendFirst withByte levels isOnly wildcardFree validLevels validFilter metadata ends takesLevel takes dollarRule levelsMatch levelsIf checkedLevels treeMatch plainMatch
+dollar = refl
+
+pub invalid : all-hold invalid-examples ≡ true
+unfolding same extendFirst withByte levels isOnly wildcardFree validLevels validFilter metadata ends takesLevel takes dollarRule levelsMatch levelsIf checkedLevels treeMatch plainMatch
+invalid = refl
 
 -- no byte of the text is this one
 abbrev lacks : ℕ → List ℕ → Bool
@@ -105,10 +144,10 @@ any-level = filter-47 (ascii "+") (characters (ascii "+") refl refl) .0 refl
 
 -- 4.7.1.2: "sport/#" also matches the singular "sport", since # includes the parent level
 pub parent-matches : Matches (ascii "sport/#") (ascii "sport")
-unfolding same extendFirst withByte levels isOnly wildcardFree validLevels validFilter metadata ends passes behind takes dollarRule treeLevels levelsIf checkedLevels treeMatch
+unfolding same extendFirst withByte levels isOnly wildcardFree validLevels validFilter metadata ends takesLevel takes dollarRule levelsMatch levelsIf checkedLevels treeMatch
 parent-matches = tree-47 (ascii "sport/#") (ascii "sport") below-sport (name-of (ascii "sport") refl refl refl refl) .0 refl
 
 -- 4.7.1.3: "/finance" matches "+/+" and "/+", but not "+"
 pub two-levels-differ : Matches (ascii "+") (ascii "/finance") → ⊥
-unfolding same extendFirst withByte levels isOnly wildcardFree validLevels validFilter metadata ends passes behind takes dollarRule treeLevels levelsIf checkedLevels treeMatch
+unfolding same extendFirst withByte levels isOnly wildcardFree validLevels validFilter metadata ends takesLevel takes dollarRule levelsMatch levelsIf checkedLevels treeMatch
 two-levels-differ m = true≢false (sym (tree-47 (ascii "+") (ascii "/finance") any-level (name-of (ascii "/finance") refl refl refl refl) .1 m))

@@ -2,15 +2,15 @@
 -- each other level starts behind a separator. By `Leveled`, or by level. Assumes nothing.
 use Prim.Native.Nat.{ℕ, zero, suc}
 use mathlib.Core.Path.{_≡_, refl, sym, ap, _∙_}
-use mathlib.Core.Bool.{Bool, true, false, cond, true≢false, not-eq-not}
+use mathlib.Core.Bool.{Bool, true, false, cond, true≢false}
 use mathlib.Core.Logic.{_↔_, Iff·rfl}
 use mathlib.Core.List.{List, [], _∷_, _++_, append-nil}
 use mathlib.Core.Option.{some, Option·some-injective, Option·none-ne-some}
 use lib.Dec.{eqb}
 use borrow.Author.Tests.{eqb-true, ne-eqb}
 use Rattle.topic.specs.Topic.{Level, slash, extendFirst, withByte, levels, metadata}
-use Rattle.topic.specs.Mqtt47.{separator, dollar, At, Splits, one, more, NoDollarLevel, first, next}
-use Rattle.topic.proofs.Scan.{Leveled, nil, start, inside, leveled, leveled-levels}
+use Rattle.topic.specs.Mqtt47.{separator, dollar, At, Splits, one, more}
+use Rattle.topic.proofs.Scan.{Leveled, nil, start, inside}
 use Rattle.topic.proofs.Positions.{at-front}
 
 -- a level has no separator
@@ -54,19 +54,3 @@ pub metadata-front : (level : Level) → (metadata level ≡ true) ↔ At level 
 unfolding metadata
 metadata-front [] = (λ e. absurd (true≢false (sym e)), λ a. absurd (Option·none-ne-some dollar a))
 metadata-front (b ∷ level) = at-front b dollar level
-
--- none of these levels is metadata
-abbrev pub Plain : List Level → Type 0
-Plain [] = Unit {0}
-Plain (level ∷ rest) = (metadata level ≡ false) × Plain rest
-
-plain-front : {text : List ℕ} {level : Level} {rest : List Level} → Leveled text level rest → (At text 0 dollar → ⊥) → metadata level ≡ false
-plain-front {level = level} d h = not-eq-not {b = false} .0 (λ e. h (front d dollar refl .0 (metadata-front level .0 e)))
-
-plain-rest : {text : List ℕ} {level : Level} {rest : List Level} → Leveled text level rest → ((i : ℕ) → At text i separator → At text (suc i) dollar → ⊥) → Plain rest
-plain-rest nil h = tt
-plain-rest (start {b} {text} e d) h = (plain-front d (h 0 (at-front b slash text .0 e)), plain-rest d (λ i. h (suc i)))
-plain-rest (inside e d) h = plain-rest d (λ i. h (suc i))
-
-pub plain-levels : (text : List ℕ) → NoDollarLevel text → Plain (levels text)
-plain-levels text h = let d = leveled text in rw (leveled-levels (d .2)) (plain-front (d .2) (h 0 first), plain-rest (d .2) (λ i a. h (suc i) (next i a)))

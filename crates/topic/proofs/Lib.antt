@@ -5,3 +5,4 @@ pub mod Levels
 pub mod Oasis
 pub mod Examples
 pub mod Apart
+pub mod Earlier

@@ -2,7 +2,7 @@
 -- `takes` is `Takes` on the levels of a filter (`Valid`), and the `$` rule is read at the first bytes. Assumes nothing.
 use Prim.Native.Nat.{ℕ, zero, suc}
 use mathlib.Core.Path.{_≡_, refl, sym, ap, _∙_}
-use mathlib.Core.Bool.{Bool, true, false, _&&_, _||_, not, cond, true≢false, and-eq-true-iff}
+use mathlib.Core.Bool.{Bool, true, false, _&&_, _||_, not, true≢false, and-eq-true-iff}
 use mathlib.Core.Logic.{_↔_, Iff·trans, Iff·and, _⊎_, inl, inr, ⊎-elim, ⊎-map}
 use mathlib.Core.List.{List, [], _∷_}
 use mathlib.Core.Option.{Option·some-injective, Option·none-ne-some}
@@ -11,13 +11,12 @@ use lib.ListN.{getElem?}
 use borrow.Author.Tests.{not-true}
 use Rattle.text.specs.Text.{same}
 use Rattle.text.proofs.Laws.{same-true, same-itself, same-unequal}
-use Rattle.topic.specs.Topic.{Level, plus, hash, levels, isOnly, isPlus, isHash, wildcardFree, isLast, validLevels, validFilter, ends, passes, behind, takes, dollarRule, treeLevels, levelsIf, checkedLevels, treeMatch, plainMatch}
-use Rattle.topic.specs.declared.Passed.the-variants.{Onward, Answer}
-use Rattle.topic.specs.Mqtt47.{multi, single, dollar, At, Filter, Name, Literal, Takes, nothing, equal, single-level, multi-level, Matches, first}
+use Rattle.topic.specs.Topic.{Level, plus, hash, levels, isOnly, isPlus, isHash, wildcardFree, isLast, validLevels, validFilter, ends, takesLevel, takes, dollarRule, levelsMatch, levelsIf, checkedLevels, treeMatch, plainMatch}
+use Rattle.topic.specs.Mqtt47.{multi, single, dollar, At, Filter, Name, Literal, Takes, nothing, equal, single-level, multi-level, Matches}
 use Rattle.topic.specs.Demand2.{Filter47, Tree47, Plain47}
 use Rattle.topic.proofs.Scan.{leveled, leveled-levels}
 use Rattle.topic.proofs.Positions.{valid-places}
-use Rattle.topic.proofs.Levels.{splits, splits-levels, front, metadata-front, Plain, plain-levels}
+use Rattle.topic.proofs.Levels.{splits, splits-levels, front, metadata-front}
 
 -- a level without wildcards, by its places
 absent : (level : Level) → wildcardFree level ≡ true → (c : ℕ) → (eqb c plus || eqb c hash) ≡ true → (i : ℕ) → At level i c → ⊥
@@ -62,39 +61,26 @@ valid (level ∷ rest) e =
     at false false true _ _ q {rest = r ∷ rest} e v = absurd (true≢false (sym e))
     at false false false _ _ _ e v = absurd (true≢false (sym e))
 
--- behind a level that takes its equal
-equal-behind : (equal ended rest : Bool) → behind (cond equal Onward (Answer false)) ended rest ≡ (equal && rest)
-unfolding behind
-equal-behind true ended rest = refl
-equal-behind false ended rest = refl
-
 -- `takes` is `Takes`: a valid filter's levels take what `takes` says they take, and nothing else
-takes-levels : {filter : List Level} → Valid filter → (name : List Level) → takes false filter name ≡ true → Takes filter name
-unfolding takes passes behind ends isOnly same
+takes-levels : {filter : List Level} → Valid filter → (name : List Level) → takes filter name ≡ true → Takes filter name
+unfolding takes takesLevel ends isOnly same
 takes-levels none [] e = nothing
 takes-levels none (t ∷ name) e = absurd (true≢false (sym e))
 takes-levels (literal l v) [] e = absurd (true≢false (sym e ∙ not-hash l))
 takes-levels (literal {level} {rest} l v) (t ∷ name) e =
-    let h = and-eq-true-iff (same level t) (takes false rest name) .0 (rw (not-hash l, not-plus l, equal-behind) at e) in
+    let h = and-eq-true-iff (same level t) (takes rest name) .0 (rw (not-hash l, not-plus l) at e) in
     rw (← same-true level t (h .0)) (equal level l (takes-levels v name (h .1)))
 takes-levels (any-level v) [] e = absurd (true≢false (sym e))
 takes-levels (any-level v) (t ∷ name) e = single-level t (takes-levels v name e)
 takes-levels any-rest name e = multi-level name
 
-levels-take : {filter name : List Level} → Takes filter name → takes false filter name ≡ true
-unfolding takes passes behind ends isOnly same
+levels-take : {filter name : List Level} → Takes filter name → takes filter name ≡ true
+unfolding takes takesLevel ends isOnly same
 levels-take nothing = refl
 levels-take (equal level l t) = rw (not-hash l, not-plus l, same-itself level) (levels-take t)
 levels-take (single-level level t) = levels-take t
 levels-take (multi-level []) = refl
 levels-take (multi-level (t ∷ name)) = refl
-
--- where no level is metadata, P's rule is none
-unguarded : (filter name : List Level) → Plain name → takes true filter name ≡ takes false filter name
-unfolding takes passes behind
-unguarded filter [] p = refl
-unguarded [] (t ∷ name) p = refl
-unguarded (f ∷ filter) (t ∷ name) p = rw (p .0, unguarded filter name (p .1))
 
 -- a filter's first level is a wildcard where it begins with one
 wildcard-front : {level : Level} {rest : List Level} → Valid (level ∷ rest) → ((isPlus level || isHash level) ≡ true) ↔ (At level 0 multi ⊎ At level 0 single)
@@ -146,24 +132,20 @@ valid-filter : {filter : List ℕ} → Filter filter → Valid (levels filter)
 unfolding validFilter
 valid-filter {filter} f = valid (levels filter) (filter-valid f)
 
-takes-filter : {filter : List ℕ} → Filter filter → (name : List ℕ) → (takes false (levels filter) (levels name) ≡ true) ↔ Takes (levels filter) (levels name)
+takes-filter : {filter : List ℕ} → Filter filter → (name : List ℕ) → (takes (levels filter) (levels name) ≡ true) ↔ Takes (levels filter) (levels name)
 takes-filter f name = (takes-levels (valid-filter f) (levels name), levels-take)
 
 -- the valid filters of document 01 are the topic filters of 4.7
 pub filter-47 : Filter47
 filter-47 text c = (λ e. let p = valid-places text .0 e in record { characters = c; multi-level = p .0; single-level = p .1 }, filter-valid)
 
--- on topic filters and topic names, Tree match T is the matching of 4.7
-pub tree-47 : Tree47
-unfolding treeMatch treeLevels checkedLevels levelsIf
-tree-47 filter name f n =
-    rw (name-valid n)
-    (Iff·trans (and-eq-true-iff _ _)
-    (Iff·trans (Iff·and (rule-dollar filter name (valid-filter f)) (takes-filter f name)) (matches filter name)))
-
--- Plain match P is too, on names of which no level begins with `$`
+-- on topic filters and topic names, Plain match P is the matching of 4.7
 pub plain-47 : Plain47
-unfolding plainMatch
-plain-47 filter name f n h =
-    rw (unguarded (levels filter) (levels name) (plain-levels name h))
-    (Iff·trans (takes-filter f name) (λ t. matches filter name .0 (λ _. h 0 first, t), λ m. matches filter name .1 m .1))
+unfolding plainMatch levelsMatch
+plain-47 filter name f n =
+    Iff·trans (and-eq-true-iff _ _) (Iff·trans (Iff·and (rule-dollar filter name (valid-filter f)) (takes-filter f name)) (matches filter name))
+
+-- Tree match T is too, since topic names are valid
+pub tree-47 : Tree47
+unfolding treeMatch checkedLevels levelsIf plainMatch
+tree-47 filter name f n = rw (name-valid n) (plain-47 filter name f n)

@@ -1,21 +1,19 @@
 -- Laws of levels by their places, and of the walk: a step does not change what a walk comes to.
 use Prim.Native.Nat.{ℕ, zero, suc, _+_, _-_, _≤_, _<_}
-use native.Mathlib.Nat.{add-assoc, zero-add}
+use native.Mathlib.Nat.{zero-add}
 use native.Mathlib.Numerals.{add-one}
 use native.Mathlib.Omega.{arith}
 use mathlib.Core.Path.{_≡_, refl, sym, ap, subst, _∙_}
 use mathlib.Core.Bool.{Bool, true, false, _&&_, _||_, not, cond, and-true}
 use mathlib.Core.List.{List, [], _∷_}
-use lib.Dec.{eqb, leb, ltb, leb·zero, leb·suc-zero, leb·suc-suc}
+use lib.Dec.{eqb, ltb, leb·zero, leb·suc-suc}
 use lib.ListN.{length, getD, take, drop, length-drop, drop-of-length-le}
 use lib.Seq.{drop-cons}
-use borrow.Author.Tests.{le-leb, lt-leb, lt-ltb, le-ltb, ltb-false, ltb-true, eq-eqb, ne-eqb, eqb-true}
+use borrow.Author.Tests.{le-leb, lt-leb, ltb-false, ltb-true, eq-eqb, ne-eqb, eqb-true}
 use Rattle.text.specs.Text.{same}
 use Rattle.text.proofs.Laws.{same-unequal}
-use Rattle.topic.specs.Topic.{Level, slash, dollar, extendFirst, withByte, levels, isOnly, isPlus, isHash, metadata, ends, passes, behind, takes, dollarRule, treeLevels}
-use Rattle.topic.specs.Walk.{firstLevel, levelAt, levelEnd, nextLevel, levelsAt, answered, advanced, stepped}
-use Rattle.topic.specs.declared.Passed.{Passed}
-use Rattle.topic.specs.declared.Passed.the-variants.{Onward, Stop, Answer}
+use Rattle.topic.specs.Topic.{Level, slash, dollar, extendFirst, withByte, levels, isOnly, isPlus, isHash, metadata, ends, takesLevel, takes, dollarRule, levelsMatch}
+use Rattle.topic.specs.Walk.{firstLevel, levelAt, levelEnd, nextLevel, levelsAt, answered, onward, stepped}
 use Rattle.topic.specs.declared.Walk.{Walk}
 
 -- from the text's beginning on, all its levels
@@ -147,12 +145,12 @@ unfolding ends
 ends-here filter at h = rw (levels-here filter at h)
 
 -- what a walk comes to: its answer, or that of the levels that are left
-unfoldable pub comesTo : Bool → List ℕ → List ℕ → Walk → Bool
-comesTo guarded filter text w = cond (w .done) (w .taken) (takes guarded (levelsAt filter (w .filter)) (levelsAt text (w .text)))
+unfoldable pub comesTo : List ℕ → List ℕ → Walk → Bool
+comesTo filter text w = cond (w .done) (w .taken) (takes (levelsAt filter (w .filter)) (levelsAt text (w .text)))
 
-pub comes-done : (guarded : Bool) (filter text : List ℕ) (w : Walk) → w .done ≡ true → comesTo guarded filter text w ≡ w .taken
+pub comes-done : (filter text : List ℕ) (w : Walk) → w .done ≡ true → comesTo filter text w ≡ w .taken
 unfolding comesTo
-comes-done guarded filter text w e = λ i. cond (e i) (w .taken) (takes guarded (levelsAt filter (w .filter)) (levelsAt text (w .text)))
+comes-done filter text w e = λ i. cond (e i) (w .taken) (takes (levelsAt filter (w .filter)) (levelsAt text (w .text)))
 
 -- what falls with each step of a walk that is not done
 unfoldable pub left : List ℕ → Walk → ℕ
@@ -160,48 +158,48 @@ left filter w = cond (w .done) 0 (suc (length filter + 1 - w .filter))
 
 -- a step, by its tests
 pub stepped-by :
-    (guarded : Bool) (filter text : List ℕ) (w : Walk) {done over short : Bool} {p : Passed} →
+    (filter text : List ℕ) (w : Walk) {done over short multi taken : Bool} →
     w .done ≡ done →
     ltb (length text) (w .text) ≡ over →
     ltb (length filter) (w .filter) ≡ short →
-    passes guarded (levelAt filter (w .filter)) (levelAt text (w .text)) ≡ p →
-    stepped guarded filter text w
-    ≡ cond done w (cond over (answered w (ends (levelsAt filter (w .filter)))) (cond short (answered w false) (advanced filter text w p)))
+    isHash (levelAt filter (w .filter)) ≡ multi →
+    takesLevel (levelAt filter (w .filter)) (levelAt text (w .text)) ≡ taken →
+    stepped filter text w
+    ≡ cond done w
+    (cond over (answered w (ends (levelsAt filter (w .filter))))
+    (cond short (answered w false) (cond multi (answered w true) (cond taken (onward filter text w) (answered w false)))))
 unfolding stepped
-stepped-by guarded filter text w d o s p =
-    λ i. cond (d i) w (cond (o i) (answered w (ends (levelsAt filter (w .filter)))) (cond (s i) (answered w false) (advanced filter text w (p i))))
-
--- one level on another, by its tests
-pub passes-by :
-    (guarded : Bool) (filter text : Level) {multi single shy equal : Bool} →
-    isHash filter ≡ multi →
-    isPlus filter ≡ single →
-    (guarded && metadata text) ≡ shy →
-    same filter text ≡ equal →
-    passes guarded filter text ≡ cond multi (Answer (not shy)) (cond single (cond shy Stop Onward) (cond equal Onward (Answer false)))
-unfolding passes
-passes-by guarded filter text m s y e = λ i. cond (m i) (Answer (not (y i))) (cond (s i) (cond (y i) Stop Onward) (cond (e i) Onward (Answer false)))
+stepped-by filter text w d o s m t =
+    λ i. cond (d i) w
+    (cond (o i) (answered w (ends (levelsAt filter (w .filter))))
+    (cond (s i) (answered w false) (cond (m i) (answered w true) (cond (t i) (onward filter text w) (answered w false)))))
 
 -- one side has no level
-takes-nothing : (guarded : Bool) (filter : List Level) → takes guarded filter [] ≡ ends filter
+takes-nothing : (filter : List Level) → takes filter [] ≡ ends filter
 unfolding takes
-takes-nothing guarded filter = refl
+takes-nothing filter = refl
 
-takes-none : (guarded : Bool) (t : Level) (text : List Level) → takes guarded [] (t ∷ text) ≡ false
+takes-none : (t : Level) (text : List Level) → takes [] (t ∷ text) ≡ false
 unfolding takes
-takes-none guarded t text = refl
+takes-none t text = refl
+
+-- both have one
+pub takes-by : (f t : Level) (filter text : List Level) {multi taken : Bool} → isHash f ≡ multi → takesLevel f t ≡ taken
+    → takes (f ∷ filter) (t ∷ text) ≡ (multi || (taken && takes filter text))
+unfolding takes
+takes-by f t filter text m k = λ i. m i || (k i && takes filter text)
 
 -- the second walk comes to what the first does, and less is left of it
-pub record Nearer (guarded : Bool) (filter text : List ℕ) (w v : Walk) : Type 0 where
-  pub comes : comesTo guarded filter text v ≡ comesTo guarded filter text w
+pub record Nearer (filter text : List ℕ) (w v : Walk) : Type 0 where
+  pub comes : comesTo filter text v ≡ comesTo filter text w
   pub less : left filter v < left filter w
 
-module _ (guarded : Bool) (filter text : List ℕ) (w : Walk) (d : w .done ≡ false) where
+module _ (filter text : List ℕ) (w : Walk) (d : w .done ≡ false) where
   abbrev near : Walk → Type 0
-  near v = Nearer guarded filter text w v
+  near v = Nearer filter text w v
 
   abbrev all : Bool
-  all = takes guarded (levelsAt filter (w .filter)) (levelsAt text (w .text))
+  all = takes (levelsAt filter (w .filter)) (levelsAt text (w .text))
 
   near-answered : (b : Bool) → b ≡ all → near (answered w b)
   unfolding comesTo left answered
@@ -209,32 +207,39 @@ module _ (guarded : Bool) (filter text : List ℕ) (w : Walk) (d : w .done ≡ f
 
   -- a level of each is there
   module _ (hs : w .text ≤ length text) (hf : w .filter ≤ length filter) where
-    near-advanced : (p : Passed) → p ≡ passes guarded (levelAt filter (w .filter)) (levelAt text (w .text)) → near (advanced filter text w p)
-    unfolding comesTo left advanced takes behind nextLevel
-    near-advanced Onward e =
-        record {
-          comes = rw (d, levels-here filter (w .filter) hf, levels-here text (w .text) hs, ← e);
-          less = rw d (omega (arith, end-after filter (w .filter)));
-        }
-    near-advanced Stop e = near-answered _ (rw (levels-here filter (w .filter) hf, levels-here text (w .text) hs, ← e))
-    near-advanced (Answer taken) e = near-answered taken (rw (levels-here filter (w .filter) hf, levels-here text (w .text) hs, ← e))
+    all-by : {multi taken : Bool} → isHash (levelAt filter (w .filter)) ≡ multi → takesLevel (levelAt filter (w .filter)) (levelAt text (w .text)) ≡ taken
+        → all ≡ (multi || (taken && takes (levelsAt filter (nextLevel filter (w .filter))) (levelsAt text (nextLevel text (w .text)))))
+    all-by m k = rw (levels-here filter (w .filter) hf, levels-here text (w .text) hs) (takes-by _ _ _ _ m k)
+
+    near-level :
+        (multi taken : Bool) → isHash (levelAt filter (w .filter)) ≡ multi → takesLevel (levelAt filter (w .filter)) (levelAt text (w .text)) ≡ taken →
+        near (cond multi (answered w true) (cond taken (onward filter text w) (answered w false)))
+    unfolding comesTo left onward nextLevel
+    near-level true taken m k = near-answered true (sym (all-by m k))
+    near-level false true m k =
+        record { comes = rw d (sym (all-by m k)); less = rw d (omega (arith, end-after filter (w .filter))) }
+    near-level false false m k = near-answered false (sym (all-by m k))
 
   -- a step brings a walk nearer
-  pub step-nearer : near (stepped guarded filter text w)
-  step-nearer = subst near (sym (stepped-by guarded filter text w d refl refl refl)) (at-text (ltb (length text) (w .text)) refl)
+  pub step-nearer : near (stepped filter text w)
+  step-nearer = subst near (sym (stepped-by filter text w d refl refl refl refl)) (at-text (ltb (length text) (w .text)) refl)
     where
       at-filter : (b : Bool) → ltb (length filter) (w .filter) ≡ b → w .text ≤ length text
-          → near (cond b (answered w false) (advanced filter text w (passes guarded (levelAt filter (w .filter)) (levelAt text (w .text)))))
+          → near
+          (cond b (answered w false)
+          (cond (isHash (levelAt filter (w .filter))) (answered w true)
+          (cond (takesLevel (levelAt filter (w .filter)) (levelAt text (w .text))) (onward filter text w) (answered w false))))
       at-filter true e hs =
-          near-answered false (rw (levels-past filter (w .filter) (ltb-true _ _ e), levels-here text (w .text) hs) (sym (takes-none guarded _ _)))
-      at-filter false e hs = near-advanced hs (ltb-false _ _ e) _ refl
+          near-answered false (rw (levels-past filter (w .filter) (ltb-true _ _ e), levels-here text (w .text) hs) (sym (takes-none _ _)))
+      at-filter false e hs = near-level hs (ltb-false _ _ e) _ _ refl refl
 
       at-text : (b : Bool) → ltb (length text) (w .text) ≡ b
           → near
           (cond b (answered w (ends (levelsAt filter (w .filter))))
           (cond (ltb (length filter) (w .filter)) (answered w false)
-          (advanced filter text w (passes guarded (levelAt filter (w .filter)) (levelAt text (w .text))))))
-      at-text true e = near-answered _ (rw (levels-past text (w .text) (ltb-true _ _ e)) (sym (takes-nothing guarded _)))
+          (cond (isHash (levelAt filter (w .filter))) (answered w true)
+          (cond (takesLevel (levelAt filter (w .filter)) (levelAt text (w .text))) (onward filter text w) (answered w false)))))
+      at-text true e = near-answered _ (rw (levels-past text (w .text) (ltb-true _ _ e)) (sym (takes-nothing _)))
       at-text false e = at-filter (ltb (length filter) (w .filter)) refl (ltb-false _ _ e)
 
 -- a text's first level begins with its first byte, unless that is a `/`
@@ -247,7 +252,7 @@ metadata-text (b ∷ text) = at (eqb b slash) refl
     at true h = rw (eqb-true b slash h)
     at false h = refl
 
--- T's rule for `$`, by its tests
+-- the rule for `$`, by its tests
 pub dollar-by :
     (filter text : List ℕ) {single multi meta : Bool} →
     isPlus (levelAt filter 0) ≡ single →
@@ -257,11 +262,11 @@ pub dollar-by :
 unfolding dollarRule levelAt
 dollar-by filter text s h m = rw (levels-first filter, levels-first text, metadata-text text, s, h, m)
 
--- T without levels
-pub tree-nothing : (filter : List ℕ) → treeLevels (levels filter) [] ≡ ends (levels filter)
-unfolding treeLevels dollarRule takes ends
-tree-nothing filter = rw (levels-first filter)
+-- a match on no levels, and by the rule for `$`
+pub match-nothing : (filter : List ℕ) → levelsMatch (levels filter) [] ≡ ends (levels filter)
+unfolding levelsMatch dollarRule takes ends
+match-nothing filter = rw (levels-first filter)
 
-pub tree-taken : (filter text : List Level) {b : Bool} → dollarRule filter text ≡ b → treeLevels filter text ≡ (not b && takes false filter text)
-unfolding treeLevels
-tree-taken filter text e = λ i. not (e i) && takes false filter text
+pub match-by : (filter text : List Level) {b : Bool} → dollarRule filter text ≡ b → levelsMatch filter text ≡ (not b && takes filter text)
+unfolding levelsMatch
+match-by filter text e = λ i. not (e i) && takes filter text

@@ -7,7 +7,7 @@ use mathlib.Core.Bool.{true}
 use mathlib.Core.Logic.{_↔_}
 use mathlib.Core.List.{List}
 use Rattle.topic.specs.Topic.{validFilter, treeMatch, plainMatch}
-use Rattle.topic.specs.Mqtt47.{Characters, Filter, Name, Matches, NoDollarLevel}
+use Rattle.topic.specs.Mqtt47.{Characters, Filter, Name, Matches}
 
 -- "Filters .. are proved against a definition written from section 4.7": a text is valid exactly if it is a topic filter of 4.7. Document
 -- 01: "The empty text is one Blank and valid here, though 4.7 wants one character; U+0000 is accepted too": `Characters` leaves out these
@@ -18,6 +18,6 @@ Filter47 = (text : List ℕ) → Characters text → (validFilter text ≡ true)
 abbrev pub Tree47 : Type 0
 Tree47 = (filter name : List ℕ) → Filter filter → Name name → (treeMatch filter name ≡ true) ↔ Matches filter name
 
--- "per-client matching where no level begins with $": so does Plain match P, of these topic names
+-- and so does Plain match P. Request b) of document 02: "The accuracy rule now holds 4.7 for every topic name in both matchings"
 abbrev pub Plain47 : Type 0
-Plain47 = (filter name : List ℕ) → Filter filter → Name name → NoDollarLevel name → (plainMatch filter name ≡ true) ↔ Matches filter name
+Plain47 = (filter name : List ℕ) → Filter filter → Name name → (plainMatch filter name ≡ true) ↔ Matches filter name

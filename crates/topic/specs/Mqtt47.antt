@@ -83,9 +83,9 @@ pub data Takes : List (List ℕ) → List (List ℕ) → Type 0 where
   nothing : Takes [] []
   -- [MQTT-4.7.3-4]: nothing is normalised, a level without a wildcard takes the level that is equal to it, character for character
   equal : (level : List ℕ) {filter name : List (List ℕ)} → Literal level → Takes filter name → Takes (level ∷ filter) (level ∷ name)
-  -- [MQTT-4.7.1-3 | MQTT-4.7.1-2]: "+" takes exactly one level
+  -- 4.7.1.3: "+" takes exactly one level
   single-level : (level : List ℕ) {filter name : List (List ℕ)} → Takes filter name → Takes ((single ∷ []) ∷ filter) (level ∷ name)
-  -- [MQTT-4.7.1-2 | MQTT-4.7.1-1]: "#" takes the parent level and any number of levels below it
+  -- 4.7.1.2: "#" takes the parent level and any number of levels below it
   multi-level : (name : List (List ℕ)) → Takes ((multi ∷ []) ∷ []) name
 
 -- the topic filter matches the topic name, where they are a `Filter` and a `Name`
@@ -97,7 +97,3 @@ pub record Matches (filter name : List ℕ) : Type 0 where
   pub takes : Takes filterLevels nameLevels
   -- [MQTT-4.7.2-1]: a filter that starts with a wildcard does not match a name that begins with "$"
   pub no-dollar : At filter 0 multi ⊎ At filter 0 single → At name 0 dollar → ⊥
-
--- no level of the name begins with "$"
-abbrev pub NoDollarLevel : List ℕ → Type 0
-NoDollarLevel name = (i : ℕ) → StartsLevel name i → At name i dollar → ⊥

@@ -1,11 +1,9 @@
--- Topic filters and the two ways of matching: document 01, Filters, Tree match T, Plain match P.
+-- Topic filters and the two ways of matching: document 01, Filters and Tree match T; Plain match P by request b) of document 02.
 use Prim.Native.Nat.{ℕ}
 use mathlib.Core.Bool.{Bool, true, false, _&&_, _||_, not, cond}
 use mathlib.Core.List.{List, [], _∷_}
 use lib.Dec.{eqb}
 use Rattle.text.specs.Text.{same}
-use Rattle.topic.specs.declared.Passed.{Passed}
-use Rattle.topic.specs.declared.Passed.the-variants.{Onward, Stop, Answer}
 
 -- a level is a list of bytes
 abbrev pub Level : Type 0
@@ -72,39 +70,30 @@ unfoldable pub metadata : Level → Bool
 metadata [] = false
 metadata (b ∷ level) = eqb b dollar
 
--- the filter's levels when none of the text is left: "`#` the rest or nothing"; P's "nothing more or exactly `#` next"
+-- the filter's levels when none of the text is left: "`#` the rest or nothing"
 unfoldable pub ends : List Level → Bool
 ends [] = true
 ends (level ∷ rest) = isHash level
 
--- one level of the filter on one of the text: "`+` takes any one level, `#` the rest or nothing, another level its equal". With
--- `guarded`, P's rule: "`#` on a level beginning with `$` answers no; `+` on such a level ends the walk there"
-unfoldable pub passes : Bool → Level → Level → Passed
-passes guarded filter text =
-    cond (isHash filter) (Answer (not (guarded && metadata text)))
-    (cond (isPlus filter) (cond (guarded && metadata text) Stop Onward) (cond (same filter text) Onward (Answer false)))
+-- one level of the filter on one of the text: "`+` takes any one level, .. another level its equal"
+unfoldable pub takesLevel : Level → Level → Bool
+takesLevel filter text = isPlus filter || same filter text
 
--- the answer behind such a level, where `ended` is that of the filter's other levels on nothing ("yes if the filter has nothing more
--- or exactly `#` next, else no"), and `rest` that of its other levels on the text's other levels
-unfoldable pub behind : Passed → Bool → Bool → Bool
-behind Onward ended rest = rest
-behind Stop ended rest = ended
-behind (Answer taken) ended rest = taken
+-- "A match takes one level at a time": the filter's levels on the checked text's. "`#` the rest or nothing"
+unfoldable pub takes : List Level → List Level → Bool
+takes filter [] = ends filter
+takes [] (t ∷ text) = false
+takes (f ∷ filter) (t ∷ text) = isHash f || (takesLevel f t && takes filter text)
 
--- "A match takes one level at a time": the filter's levels on the checked text's; with `guarded`, P's rule at every level
-unfoldable pub takes : Bool → List Level → List Level → Bool
-takes guarded filter [] = ends filter
-takes guarded [] (t ∷ text) = false
-takes guarded (f ∷ filter) (t ∷ text) = behind (passes guarded f t) (ends filter) (takes guarded filter text)
-
--- T's rule: "If the checked text's first level begins with `$`, a filter's leading wildcard doesn't match"
+-- "If the checked text's first level begins with `$`, a filter's leading wildcard doesn't match; later levels have no such rule"
 unfoldable pub dollarRule : List Level → List Level → Bool
 dollarRule [] text = false
 dollarRule (f ∷ filter) [] = false
 dollarRule (f ∷ filter) (t ∷ text) = (isPlus f || isHash f) && metadata t
 
-unfoldable pub treeLevels : List Level → List Level → Bool
-treeLevels filter text = not (dollarRule filter text) && takes false filter text
+-- both together: the matching of T and P, once the checked text is split
+unfoldable pub levelsMatch : List Level → List Level → Bool
+levelsMatch filter text = not (dollarRule filter text) && takes filter text
 
 -- the levels of a text that is a valid filter, else none
 unfoldable pub levelsIf : Bool → List ℕ → List Level
@@ -114,10 +103,11 @@ levelsIf valid text = cond valid (levels text) []
 unfoldable pub checkedLevels : List ℕ → List Level
 checkedLevels text = levelsIf (validFilter text) text
 
--- Tree match T. A checked text that is no valid filter is taken by `#`: who wants it left out tests it
+-- Tree match T: zero levels are those "which `#` alone matches"
 unfoldable pub treeMatch : List ℕ → List ℕ → Bool
-treeMatch filter text = treeLevels (levels filter) (checkedLevels text)
+treeMatch filter text = levelsMatch (levels filter) (checkedLevels text)
 
--- Plain match P: "the checked text is split without a validity test"
+-- Plain match P: "As T, but the checked text is split without a validity test". Request b): "From now on it follows section 4.7: only a
+-- filter's leading wildcard shies from a first level beginning with `$`"
 unfoldable pub plainMatch : List ℕ → List ℕ → Bool
-plainMatch filter text = takes true (levels filter) (levels text)
+plainMatch filter text = levelsMatch (levels filter) (levels text)

@@ -4,9 +4,7 @@ use mathlib.Core.Bool.{Bool, true, false, cond}
 use mathlib.Core.List.{List, [], _∷_}
 use lib.Dec.{eqb, leb, ltb}
 use lib.ListN.{length, drop}
-use Rattle.topic.specs.Topic.{Level, slash, plus, hash, levels, ends, passes}
-use Rattle.topic.specs.declared.Passed.{Passed}
-use Rattle.topic.specs.declared.Passed.the-variants.{Onward, Stop, Answer}
+use Rattle.topic.specs.Topic.{Level, slash, plus, hash, levels, isHash, ends, takesLevel}
 use Rattle.topic.specs.declared.Walk.{Walk}
 
 -- a text up to its first `/`
@@ -33,20 +31,19 @@ levelsAt text at = cond (leb at (length text)) (levels (drop at text)) []
 unfoldable pub answered : Walk → Bool → Walk
 answered w taken = record { filter = w .filter; text = w .text; done = true; taken = taken }
 
--- the walk after one level of the filter and one of the text, by what they come to
-unfoldable pub advanced : List ℕ → List ℕ → Walk → Passed → Walk
-advanced filter text w Onward =
+-- the walk behind one level of the filter and one of the text
+unfoldable pub onward : List ℕ → List ℕ → Walk → Walk
+onward filter text w =
     record { filter = nextLevel filter (w .filter); text = nextLevel text (w .text); done = w .done; taken = w .taken }
-advanced filter text w Stop = answered w (ends (levelsAt filter (nextLevel filter (w .filter))))
-advanced filter text w (Answer taken) = answered w taken
 
 -- the walk after one more level; a walk that is done stays as it is
-unfoldable pub stepped : Bool → List ℕ → List ℕ → Walk → Walk
-stepped guarded filter text w =
+unfoldable pub stepped : List ℕ → List ℕ → Walk → Walk
+stepped filter text w =
     cond (w .done) w
     (cond (ltb (length text) (w .text)) (answered w (ends (levelsAt filter (w .filter))))
     (cond (ltb (length filter) (w .filter)) (answered w false)
-    (advanced filter text w (passes guarded (levelAt filter (w .filter)) (levelAt text (w .text))))))
+    (cond (isHash (levelAt filter (w .filter))) (answered w true)
+    (cond (takesLevel (levelAt filter (w .filter)) (levelAt text (w .text))) (onward filter text w) (answered w false)))))
 
 -- the two differ at a byte, and up to it the filter has no wildcard
 unfoldable pub beginsApart : List ℕ → List ℕ → Bool

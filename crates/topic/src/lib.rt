@@ -1,6 +1,5 @@
-// Topic filters: their levels and validity, and the two ways of matching, T and P (document 01; topic.rs, trie.rs).
+// Topic filters: their levels and validity, and the two ways of matching, T and P (document 01, request b) of document 02; topic.rs, trie.rs).
 ghost use mathlib.Core.Path.{_≡_};
-ghost use mathlib.Core.Bool.{_&&_};
 ghost use lib.ListN.{length};
 ghost use Rattle.topic.specs.Topic as spec;
 ghost use Rattle.topic.specs.Walk as places;
@@ -85,16 +84,6 @@ fn is_metadata(level: &[u8]) -> bool
     level[0] == b'$'
 }
 
-// P's rule: is a wildcard kept from this level?
-fn is_guarded(checked: &[u8], guarded: bool) -> bool
-    ensures { λ r. ⌜ r ≡ (guarded && spec.metadata (now (checked .entry))) ⌝ }
-{
-    if guarded {
-        return is_metadata(checked);
-    }
-    false
-}
-
 // Does the filter have nothing from `at` on, or `#` next?
 fn ends_at(filter: &[u8], at: usize) -> bool
     ensures { λ r. ⌜ r ≡ spec.ends (places.levelsAt (now (filter .entry)) at) ⌝ }
@@ -105,32 +94,14 @@ fn ends_at(filter: &[u8], at: usize) -> bool
     is_only(level_at(filter, at), b'#')
 }
 
-// What one level of a filter and one of a checked text come to.
-pub enum Passed {
-    // Both are consumed; the levels behind them decide.
-    Onward,
-    // The walk ends there: yes if the filter has nothing more or exactly `#` next, else no.
-    Stop,
-    Answer(bool),
-}
-
-// One level of a filter on one of a checked text; with `guarded`, P's rule for levels that begin with `$`.
-pub fn pass(level: &[u8], checked: &[u8], guarded: bool) -> Passed
-    ensures { λ r. ⌜ r ≡ spec.passes guarded (now (level .entry)) (now (checked .entry)) ⌝ }
+// Does one level of a filter, if it isn't `#`, take one of a checked text?
+fn takes_level(level: &[u8], checked: &[u8]) -> bool
+    ensures { λ r. ⌜ r ≡ spec.takesLevel (now (level .entry)) (now (checked .entry)) ⌝ }
 {
-    if is_only(level, b'#') {
-        return Passed::Answer(!is_guarded(checked, guarded));
-    }
     if is_only(level, b'+') {
-        if is_guarded(checked, guarded) {
-            return Passed::Stop;
-        }
-        return Passed::Onward;
+        return true;
     }
-    if text::same(level, checked) {
-        return Passed::Onward;
-    }
-    Passed::Answer(false)
+    text::same(level, checked)
 }
 
 // A match on its way: where the next level of the filter and of the checked text begins, one past the end where none is left;
@@ -153,8 +124,8 @@ impl Walk {
     }
 
     // Consumes one level of the filter and one of the checked text, and hands the walk back.
-    pub fn step(mut self, filter: &[u8], text: &[u8], guarded: bool) -> Walk
-        ensures { λ r. ⌜ r ≡ places.stepped guarded (now (filter .entry)) (now (text .entry)) self ⌝ }
+    pub fn step(mut self, filter: &[u8], text: &[u8]) -> Walk
+        ensures { λ r. ⌜ r ≡ places.stepped (now (filter .entry)) (now (text .entry)) self ⌝ }
     {
         let done = self.done;
         if done {
@@ -169,32 +140,31 @@ impl Walk {
             return self.answered(false);
         }
         let level = level_at(filter, from);
-        let checked = level_at(text, at);
-        let next = from + level.len() + 1;
-        match pass(level, checked, guarded) {
-            Passed::Answer(taken) => self.answered(taken),
-            Passed::Stop => self.answered(ends_at(filter, next)),
-            Passed::Onward => {
-                self.filter = next;
-                self.text = at + checked.len() + 1;
-                self
-            }
+        if is_only(level, b'#') {
+            return self.answered(true);
         }
+        let checked = level_at(text, at);
+        if !takes_level(level, checked) {
+            return self.answered(false);
+        }
+        self.filter = from + level.len() + 1;
+        self.text = at + checked.len() + 1;
+        self
     }
 }
 
-// Do the filter's levels take the checked text's from `from` on? One level a turn.
-fn takes(filter: &[u8], text: &[u8], from: usize, guarded: bool) -> bool
-    ensures { λ r. ⌜ r ≡ spec.takes guarded (spec.levels (now (filter .entry))) (places.levelsAt (now (text .entry)) from) ⌝ }
+// Do the filter's levels take the checked text's? One level a turn.
+fn takes(filter: &[u8], text: &[u8]) -> bool
+    ensures { λ r. ⌜ r ≡ spec.takes (spec.levels (now (filter .entry))) (spec.levels (now (text .entry))) ⌝ }
 {
     let mut walk = Walk {
         filter: 0,
-        text: from,
+        text: 0,
         done: false,
         taken: false,
     };
     while !walk.done {
-        walk = walk.step(filter, text, guarded);
+        walk = walk.step(filter, text);
     }
     walk.taken
 }
@@ -206,11 +176,11 @@ fn dollar_rule(filter: &[u8], text: &[u8]) -> bool
     if !is_metadata(text) {
         return false;
     }
-    let level = level_at(filter, 0);
-    if is_only(level, b'+') {
+    let first = level_at(filter, 0);
+    if is_only(first, b'+') {
         return true;
     }
-    is_only(level, b'#')
+    is_only(first, b'#')
 }
 
 // Do the two differ at a byte up to which the filter has no wildcard? They then differ in the level of that byte, and T says no.
@@ -237,17 +207,24 @@ pub fn begins_apart(filter: &[u8], text: &[u8]) -> bool
     false
 }
 
-// Tree match T, by a caller who knows whether the checked text is a valid filter.
-pub fn tree_match_known(filter: &[u8], text: &[u8], valid: bool) -> bool
-    ensures { λ r. ⌜ r ≡ spec.treeLevels (spec.levels (now (filter .entry))) (spec.levelsIf valid (now (text .entry))) ⌝ }
+// Plain match P: does the filter take the checked text?
+pub fn plain_match(filter: &[u8], text: &[u8]) -> bool
+    ensures { λ r. ⌜ r ≡ spec.plainMatch (now (filter .entry)) (now (text .entry)) ⌝ }
 {
-    if !valid {
-        return ends_at(filter, 0);
-    }
     if dollar_rule(filter, text) {
         return false;
     }
-    takes(filter, text, 0, false)
+    takes(filter, text)
+}
+
+// Tree match T, by a caller who knows whether the checked text is a valid filter: if it is one, T is P.
+pub fn tree_match_known(filter: &[u8], text: &[u8], valid: bool) -> bool
+    ensures { λ r. ⌜ r ≡ spec.levelsMatch (spec.levels (now (filter .entry))) (spec.levelsIf valid (now (text .entry))) ⌝ }
+{
+    if valid {
+        return plain_match(filter, text);
+    }
+    ends_at(filter, 0)
 }
 
 // Tree match T: does the filter take the checked text? Most differ before the filter's first wildcard.
@@ -258,11 +235,4 @@ pub fn tree_match(filter: &[u8], text: &[u8]) -> bool
         return false;
     }
     tree_match_known(filter, text, valid_filter(text))
-}
-
-// Plain match P: does the filter take the checked text?
-pub fn plain_match(filter: &[u8], text: &[u8]) -> bool
-    ensures { λ r. ⌜ r ≡ spec.plainMatch (now (filter .entry)) (now (text .entry)) ⌝ }
-{
-    takes(filter, text, 0, true)
 }

@@ -1,8 +1,8 @@
 -- Texts that begin apart don't match; others by the checked text's validity. Assumes nothing.
-use mathlib.Core.Path.{_≡_, sym, ap, _∙_}
+use mathlib.Core.Path.{sym, ap, _∙_}
 use mathlib.Core.Bool.{Bool}
 use denote.Ref.{now}
-use Rattle.topic.specs.Topic.{levels, validFilter, treeLevels, levelsIf, checkedLevels, treeMatch}
+use Rattle.topic.specs.Topic.{levels, levelsMatch, levelsIf, checkedLevels, treeMatch}
 use Rattle.topic.proofs.Apart.{apart-no-match}
 use borrow.Author.Needs.{needs}
 use Rattle.topic.proofs.tree_match.Statement.{statement}
@@ -26,7 +26,7 @@ returns-2 : tie.Need-returns-2
 unfolding treeMatch checkedLevels
 returns-2 c =
     let a = c .before .before .before .before .before .before .args in
-    c .tree-match-known .ensures ∙ ap (λ (v : Bool). treeLevels (levels (now (a .filter))) (levelsIf v (now (a .text)))) (c .before .valid-filter .ensures)
+    c .tree-match-known .ensures ∙ ap (λ (v : Bool). levelsMatch (levels (now (a .filter))) (levelsIf v (now (a .text)))) (c .before .valid-filter .ensures)
 
 pub tree-match-spec : {M : Type 1} → statement M
 tree-match-spec = tie.close (tie.spec begins-apart-requires returns valid-filter-requires tree-match-known-requires returns-2)
