@@ -1,7 +1,7 @@
 /* Access rules of an MQTT broker, for C99 and C++: the functions of libmqtt_acl.a, for x86-64 Linux, System V calling convention.
 
    What the functions answer is proved for any bytes and any numbers (crates/mqtt_acl); this header is tested, not proved. Its sentences
-   are those of document 01, the specification, which docs/SPEC.md retells: T is the plugin's tree match, P the per-client rules' plain
+   are those of the specification, which docs/SPEC.md retells: T is the plugin's tree match, P the per-client rules' plain
    match. The code is position independent: it can be linked into a shared object, as a broker's plugin is one.
 
    Memory. All of it is the caller's, but the stack, of which 24 KB will do (bench/stack measures it and bounds it from the machine code,
@@ -29,8 +29,8 @@
    struct, which no `if` takes: use those.
 
    Between versions. MQTT_ACL_VERSION is that of this header, mqtt_acl_version() that of the library. While the first number is 0, a
-   new second number may change names, arguments and the layout of a store. A new third number changes none of these: it may add
-   functions, refusal numbers from 11 on and the value 15 of mqtt_acl_what: a broker takes what it doesn't know as a denial. It may add
+   new second number may change names, arguments, the layout of a store and a decision (CHANGELOG.md says which). A new third number
+   changes none of these: it may add functions, refusal numbers from 11 on and the value 15 of mqtt_acl_what: a broker takes what it doesn't know as a denial. It may add
    members at the end of mqtt_acl_client and mqtt_acl_authinfo: make these by mqtt_acl_client_of and mqtt_acl_authinfo_of, and set the
    rest by name. The other structs get none. A number that has a meaning keeps it.
 
@@ -122,8 +122,8 @@ extern "C" {
 #endif
 
 /* 10,000 times the first number, 100 times the second, and the third. */
-#define MQTT_ACL_VERSION 200
-#define MQTT_ACL_VERSION_TEXT "0.2.0"
+#define MQTT_ACL_VERSION 300
+#define MQTT_ACL_VERSION_TEXT "0.3.0"
 
 /* The version of the library, which is MQTT_ACL_VERSION where header and archive belong together. */
 uint32_t mqtt_acl_version(void);
@@ -151,7 +151,8 @@ uint8_t mqtt_acl_valid_filter(const uint8_t *text, size_t text_length);
 /* Tree match T, the plugin's: does the filter take the checked text? 1 or 0. Reads both. */
 uint8_t mqtt_acl_tree_match(const uint8_t *filter, size_t filter_length, const uint8_t *text, size_t text_length);
 
-/* Plain match P, the per-client rules': does the filter take the checked text? 1 or 0. Reads both. */
+/* Plain match P, the per-client rules': does the filter take the checked text? It is T, but for a checked text that isn't a valid
+   filter: P splits it as any other. 1 or 0. Reads both. */
 uint8_t mqtt_acl_plain_match(const uint8_t *filter, size_t filter_length, const uint8_t *text, size_t text_length);
 
 /* ---- One line: a JSON document, a plugin rule ---- */

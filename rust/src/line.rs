@@ -15,7 +15,8 @@ pub fn tree_match(filter: &[u8], text: &[u8]) -> bool {
     sys::tree_match(filter, text)
 }
 
-/// Plain match P, the per-client rules': does the filter take the checked text?
+/// Plain match P, the per-client rules': does the filter take the checked text? It is T, but for a checked text that isn't a
+/// valid filter: P splits it as any other.
 pub fn plain_match(filter: &[u8], text: &[u8]) -> bool {
     sys::plain_match(filter, text)
 }

@@ -329,13 +329,15 @@ fn empty_slices() {
     assert_eq!(root.publish(b"", 0, false, false), Ok(ClientPublish::Allow { rule: 0 }));
 }
 
-/// Document 01's marked examples of matching.
+/// Document 01's marked examples of matching, P's as request b) of document 02 has them; and texts of which T and P part.
 #[test]
 fn matching() {
     assert!(!tree_match(b"#", b"$SYS/a"));
-    assert!(tree_match(b"a/#", b"a/$b") && !plain_match(b"a/#", b"a/$b"));
-    assert!(plain_match(b"+", b"$SYS/a/b") && !tree_match(b"+", b"$SYS/a/b"));
+    assert!(tree_match(b"a/#", b"a/$b") && plain_match(b"a/#", b"a/$b"));
+    assert!(!plain_match(b"+", b"$SYS/a/b") && !tree_match(b"+", b"$SYS/a/b"));
     assert!(!plain_match(b"+/b", b"$SYS/b"));
+    assert!(plain_match(b"+", b"a+") && !tree_match(b"+", b"a+"));
+    assert!(!plain_match(b"#", b"$a+") && tree_match(b"#", b"$a+"));
     assert!(tree_match(b"a/+", b"a/#") && tree_match(b"a/+", b"a/") && !tree_match(b"a/+", b"a"));
     assert!(valid_filter(b"a/+/#") && !valid_filter(b"a/#/b") && !valid_filter(b"a+"));
     assert!(is_document(br#"{"a":[1]}"#) && !is_document(b"-1"));
@@ -355,7 +357,7 @@ fn a_client_s_own_rules() {
     assert_eq!(publish(0, false, b"bench/g7/set"), Ok(ClientPublish::Allow { rule: 1 }));
     assert_eq!(publish(0, true, b"bench/g7/set"), Ok(ClientPublish::NoDecision));
     assert_eq!(publish(2, false, b"bench/g7/set"), Ok(ClientPublish::NoDecision));
-    assert_eq!(publish(0, false, b"bench/g7/$step"), Ok(ClientPublish::NoDecision));
+    assert_eq!(publish(0, false, b"bench/g7/$step"), Ok(ClientPublish::Allow { rule: 1 }));
     assert_eq!(publish(0, false, b"bo"), Ok(ClientPublish::Refuse { rule: 2, disconnect: true }));
     assert_eq!(g7.publish(b"bo", 0, false, false), Ok(ClientPublish::Refuse { rule: 2, disconnect: false }));
     assert_eq!(g7.subscribe(b"a", 2), Ok(ClientSubscribe::Refuse { rule: 3 }));

@@ -127,9 +127,10 @@ examples =
     -- "the first rule that hits decides"; a faulty line behind it is refused all the same
     ∷ (asks nameless (rule "allow" "" (ascii "b") ∷ rule "allow" "" (ascii "a") ∷ rule "deny" "" (ascii "a") ∷ []) (to "a"), allowed 2)
     ∷ (asks nameless (rule "allow" "" (ascii "a") ∷ ascii "[" ∷ []) (to "a"), refused 5 2)
-    -- plain matching
+    -- plain matching; request b) of document 02: "So `bench/g7/#` takes `bench/g7/$step`, and `+` no longer takes `$SYS/a/b`"
     ∷ (asks nameless (allows "bench/g7/#") (to "bench/g7/start"), allowed 1)
-    ∷ (asks nameless (allows "bench/g7/#") (to "bench/g7/$step"), undecided)
+    ∷ (asks nameless (allows "bench/g7/#") (to "bench/g7/$step"), allowed 1)
+    ∷ (asks nameless (allows "+") (to "$SYS/a/b"), undecided)
     -- "1 id, name or topic .., text over 32,768 (line 0), then over 256 lines (line 257). 2 QoS over 2"
     ∷ (asks (record { superuser = true; id = letters 64; name = some (letters 64) }) [] (to "a"), allowed 0)
     ∷ (asks (record { superuser = true; id = letters 65; name = none }) [] (to "a"), refused 1 0)

@@ -11,9 +11,9 @@ use Rattle.rule.specs.Identity.{Client, identity}
 use Rattle.rule.specs.declared.Identity.{Identity}
 use Rattle.rule.specs.declared.Identity.the-variants.{Agrees, Differs}
 
--- 0.2.0: 10,000 times the first number, 100 times the second, and the third
+-- 0.3.0: 10,000 times the first number, 100 times the second, and the third
 unfoldable pub version : ℕ
-version = 200
+version = 300
 
 -- a flag that a host hands over: 0 is false, every other number true
 unfoldable pub flag : ℕ → Bool

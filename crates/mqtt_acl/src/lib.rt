@@ -63,7 +63,7 @@ fn yes(is: bool) -> u8
 pub extern "C" fn mqtt_acl_version() -> u32
     ensures { λ r. ⌜ r ≡ rules.version ⌝ }
 {
-    200
+    300
 }
 
 // Is the text a valid filter?
