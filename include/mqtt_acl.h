@@ -6,7 +6,7 @@
 
    Memory. All of it is the caller's, but the stack, of which 24 KB will do (bench/stack measures it and bounds it from the machine code,
    no proof does). The bounds by call, in bytes: open 3,928, connected 17,808, disconnected 21,280, ended 21,104, a question 17,440, a
-   per-client question 4,144, used rows 16,960, a rule line 4,024, templates 3,880, a JSON line 1,560, matching 176, all others at most
+   per-client question 4,128, used rows 16,960, a rule line 4,024, templates 3,880, a JSON line 1,560, matching 160, all others at most
    24. A text, and a store, crosses as its address and its length in bytes, without a zero byte at the end. Nothing is kept after a call:
    no heap, no state between calls, no threads. A text is only read; a store is written by mqtt_acl_open and by the three events, and by
    nothing else. Calls that only read a store may run at the same time; one that writes it runs alone.
