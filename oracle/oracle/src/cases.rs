@@ -2,7 +2,7 @@
 
 use std::fmt;
 
-use crate::matching;
+use crate::matching::{self, has_dollar, Both};
 
 #[derive(Clone, Copy, Debug, PartialEq, Eq, PartialOrd, Ord, Hash)]
 pub enum Kind {
@@ -30,13 +30,27 @@ impl Case {
     }
 
     /// The Rust's answer; none for T and P of a text that is no filter.
-    pub fn answer(&self) -> Option<bool> {
+    pub fn rust(&self) -> Option<bool> {
         let filter = matching::filter(&self.filter);
         match self.kind {
             Kind::V => Some(filter.is_some()),
             Kind::T => Some(matching::tree(&filter?).is_match(&matching::checked(&self.text))),
             Kind::P => Some(filter?.matches_str(&self.text)),
         }
+    }
+
+    /// What is right: the Rust's answer, or for P that of section 4.7 where it decides.
+    pub fn answer(&self) -> Option<bool> {
+        match self.kind {
+            Kind::P => Some(self.plain()?.answer()),
+            _ => self.rust(),
+        }
+    }
+
+    /// The plain match; none of a text that is no filter.
+    pub fn plain(&self) -> Option<Both<bool>> {
+        let topic = matching::filter(&self.filter)?;
+        Some(matching::plain(&self.filter, &topic, &self.text, has_dollar(&self.text)))
     }
 
     pub fn size(&self) -> usize {
@@ -84,68 +98,105 @@ pub const FILTERS: &[(&str, bool)] = &[
     ("$SYS/monitor/+", true),
 ];
 
-/// The documents' examples of matching: filter, text, T's answer, P's.
-pub const MATCHES: &[(&str, &str, bool, bool)] = &[
+/// An example of matching.
+struct Match {
+    filter: &'static str,
+    text: &'static str,
+    tree: bool,
+    plain: bool,
+    /// What the Rust says for P.
+    rust: bool,
+}
+
+/// T's answer and P's, which are the Rust's.
+const fn same(filter: &'static str, text: &'static str, tree: bool, plain: bool) -> Match {
+    Match { filter, text, tree, plain, rust: plain }
+}
+
+/// The same, where the Rust's P is the other by its own rule for levels that begin with `$`.
+const fn apart(filter: &'static str, text: &'static str, tree: bool, plain: bool) -> Match {
+    Match { filter, text, tree, plain, rust: !plain }
+}
+
+/// The documents' examples of matching, P's as document 02 has them.
+const MATCHES: &[Match] = &[
     // Document 01, marked examples. `#/a` is no filter, so T gives it no levels.
-    ("#", "#/a", true, true),
-    ("#", "$SYS/a", false, false),
-    ("a/#", "a/$b", true, false),
-    ("+", "$SYS/a/b", false, true),
-    ("+/b", "$SYS/b", false, false),
-    ("a/+", "a/#", true, true),
-    ("a/+", "a/", true, true),
-    ("a/+", "a", false, false),
-    // The rule and the two topics of the customer's letter.
-    ("bench/g7/#", "bench/g7/start", true, true),
-    ("bench/g7/#", "bench/g7/$step", true, false),
-    // No levels come before the `$` rule.
-    ("#", "$SYS/a#", true, false),
-    ("+", "a#", false, true),
-    // P's `#` looks only at the level where it stands.
-    ("#", "a/$b", true, true),
-    ("a/#", "a/b/$c", true, true),
-    // P's `+` on a `$` level ends the walk.
-    ("+/+", "a/$b/c", false, true),
-    ("+/#", "$x/y", false, true),
+    same("#", "#/a", true, true),
+    same("#", "$SYS/a", false, false),
+    apart("a/#", "a/$b", true, true),
+    apart("+", "$SYS/a/b", false, false),
+    same("+/b", "$SYS/b", false, false),
+    same("a/+", "a/#", true, true),
+    same("a/+", "a/", true, true),
+    same("a/+", "a", false, false),
+    // Document 00: a generator's start, and its steps, which the Rust doesn't pass.
+    same("bench/g7/#", "bench/g7/start", true, true),
+    apart("bench/g7/#", "bench/g7/$step", true, true),
+    // No levels come before T's `$` rule. P tests no text.
+    same("#", "$SYS/a#", true, false),
+    same("#", "$a+", true, false),
+    same("+", "a#", false, true),
+    same("+", "a+", false, true),
+    // P's `$` rule is for the first level and a leading wildcard.
+    apart("+", "$", false, false),
+    apart("+/#", "$", false, false),
+    apart("+/#", "$x/y", false, false),
+    same("$a/#", "$a", true, true),
+    apart("$a/#", "$a/$b", true, true),
+    // Later levels have none.
+    same("#", "a/$b", true, true),
+    same("a/#", "a/b/$c", true, true),
+    apart("/#", "/$", true, true),
+    same("a/+", "a/$", true, true),
+    apart("/+/", "/$/", true, true),
+    // `+` takes one level, also one that begins with `$`.
+    apart("/+", "/$/", false, false),
+    apart("+/+", "a/$b/c", false, false),
     // MQTT 4.7.1.2
-    ("sport/tennis/player1/#", "sport/tennis/player1", true, true),
-    ("sport/tennis/player1/#", "sport/tennis/player1/ranking", true, true),
-    ("sport/tennis/player1/#", "sport/tennis/player1/score/wimbledon", true, true),
-    ("sport/#", "sport", true, true),
+    same("sport/tennis/player1/#", "sport/tennis/player1", true, true),
+    same("sport/tennis/player1/#", "sport/tennis/player1/ranking", true, true),
+    same("sport/tennis/player1/#", "sport/tennis/player1/score/wimbledon", true, true),
+    same("sport/#", "sport", true, true),
     // MQTT 4.7.1.3
-    ("sport/tennis/+", "sport/tennis/player1", true, true),
-    ("sport/tennis/+", "sport/tennis/player2", true, true),
-    ("sport/tennis/+", "sport/tennis/player1/ranking", false, false),
-    ("sport/+", "sport", false, false),
-    ("sport/+", "sport/", true, true),
-    ("+/+", "/finance", true, true),
-    ("/+", "/finance", true, true),
-    ("+", "/finance", false, false),
+    same("sport/tennis/+", "sport/tennis/player1", true, true),
+    same("sport/tennis/+", "sport/tennis/player2", true, true),
+    same("sport/tennis/+", "sport/tennis/player1/ranking", false, false),
+    same("sport/+", "sport", false, false),
+    same("sport/+", "sport/", true, true),
+    same("+/+", "/finance", true, true),
+    same("/+", "/finance", true, true),
+    same("+", "/finance", false, false),
     // MQTT 4.7.2
-    ("#", "$SYS", false, false),
-    ("#", "$SYS/monitor/Clients", false, false),
-    ("+/monitor/Clients", "$SYS/monitor/Clients", false, false),
-    ("$SYS/#", "$SYS/", true, true),
-    ("$SYS/#", "$SYS/monitor/Clients", true, true),
-    ("$SYS/monitor/+", "$SYS/monitor/Clients", true, true),
+    same("#", "$SYS", false, false),
+    same("#", "$SYS/monitor/Clients", false, false),
+    same("+/monitor/Clients", "$SYS/monitor/Clients", false, false),
+    same("$SYS/#", "$SYS/", true, true),
+    same("$SYS/#", "$SYS/monitor/Clients", true, true),
+    same("$SYS/monitor/+", "$SYS/monitor/Clients", true, true),
     // MQTT 4.7.3
-    ("ACCOUNTS", "Accounts", false, false),
-    ("Accounts payable", "Accounts payable", true, true),
-    ("/finance", "finance", false, false),
-    ("finance", "finance/", false, false),
-    ("/", "/", true, true),
-    ("\u{e9}", "e\u{301}", false, false),
+    same("ACCOUNTS", "Accounts", false, false),
+    same("Accounts payable", "Accounts payable", true, true),
+    same("/finance", "finance", false, false),
+    same("finance", "finance/", false, false),
+    same("/", "/", true, true),
+    same("\u{e9}", "e\u{301}", false, false),
 ];
 
-/// The examples as cases, each with the answer that its document gives.
-pub fn examples() -> Vec<(Case, bool)> {
+/// A case with the answer that its document gives, and the Rust's.
+pub struct Example {
+    pub case: Case,
+    pub answer: bool,
+    pub rust: bool,
+}
+
+pub fn examples() -> Vec<Example> {
     let mut out = Vec::new();
     for (filter, valid) in FILTERS {
-        out.push((Case::new(Kind::V, filter, ""), *valid));
+        out.push(Example { case: Case::new(Kind::V, filter, ""), answer: *valid, rust: *valid });
     }
-    for (filter, text, tree, plain) in MATCHES {
-        out.push((Case::new(Kind::T, filter, text), *tree));
-        out.push((Case::new(Kind::P, filter, text), *plain));
+    for Match { filter, text, tree, plain, rust } in MATCHES {
+        out.push(Example { case: Case::new(Kind::T, filter, text), answer: *tree, rust: *tree });
+        out.push(Example { case: Case::new(Kind::P, filter, text), answer: *plain, rust: *rust });
     }
     out
 }

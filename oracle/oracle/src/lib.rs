@@ -1,6 +1,7 @@
 //! The original Rust, asked. Nothing here decides about access: every answer is
 //! one of `Topic`, `TopicTree`, `Rule`, `AclHandler::hook` or `AuthInfo`, or for a
-//! line of JSON serde_json's.
+//! line of JSON serde_json's. One thing is decided here: which texts a filter takes
+//! in per-client matching, where a level of the text begins with `$` (`section47`).
 
 pub mod cases;
 pub mod clients;
@@ -14,6 +15,7 @@ pub mod perclient;
 pub mod questions;
 pub mod record;
 pub mod rules;
+pub mod section47;
 
 pub use tokio::runtime::Runtime;
 

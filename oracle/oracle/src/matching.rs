@@ -1,10 +1,12 @@
-//! Filters and matching, asked of the original.
+//! Filters and matching, asked of the original; plain matching also of section 4.7.
 
 use std::str::FromStr;
 
-use rmqtt::topic::Topic;
+pub use rmqtt::topic::Topic;
 use rmqtt::trie::TopicTree;
 use rmqtt::types::ClientId;
+
+use crate::section47;
 
 pub type Tree = TopicTree<Option<ClientId>>;
 
@@ -24,4 +26,42 @@ pub fn tree(filter: &Topic) -> Tree {
     let mut tree = Tree::default();
     tree.insert(filter, None);
     tree
+}
+
+/// Does a level of the text begin with `$`? In per-client matching the Rust decides only where none does.
+pub fn has_dollar(text: &str) -> bool {
+    text.split('/').any(|level| level.starts_with('$'))
+}
+
+/// An answer that rests on plain matching, by the Rust's and by section 4.7's.
+#[derive(Clone, Copy, Debug)]
+pub struct Both<T> {
+    pub rust: T,
+    pub section47: T,
+    /// A level of the checked text begins with `$`: section 4.7 decides, else the Rust.
+    pub dollar: bool,
+}
+
+impl<T: Copy + PartialEq> Both<T> {
+    pub fn answer(self) -> T {
+        if self.dollar {
+            self.section47
+        } else {
+            self.rust
+        }
+    }
+
+    pub fn is_apart(self) -> bool {
+        self.rust != self.section47
+    }
+
+    /// Section 4.7's answer is the Rust's where the Rust decides.
+    pub fn is_sound(self) -> bool {
+        self.dollar || !self.is_apart()
+    }
+}
+
+/// The plain match of a filter; `dollar` is `has_dollar` of the text.
+pub fn plain(filter: &str, topic: &Topic, text: &str, dollar: bool) -> Both<bool> {
+    Both { rust: topic.matches_str(text), section47: section47::takes(filter, text), dollar }
 }

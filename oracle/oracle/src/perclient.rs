@@ -1,4 +1,4 @@
-//! Per-client rules and expiry, answered by `Rule::try_from` and `AuthInfo`.
+//! Per-client rules and expiry, answered by `Rule::try_from` and `AuthInfo`, whose matching is the Rust's.
 
 use std::time::Duration;
 

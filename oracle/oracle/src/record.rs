@@ -1,5 +1,5 @@
-//! The sample: answers of the Rust, and document 01's where it is narrower or gives a number; a line each,
-//! for a program to replay.
+//! The sample: answers of the Rust, document 01's where it is narrower or gives a number, and section 4.7's in
+//! per-client matching where a level begins with `$`; a line each, for a program to replay.
 
 use std::collections::{HashMap, HashSet};
 
@@ -58,7 +58,7 @@ pub fn sample() -> Vec<u8> {
 
 fn matches() -> String {
     let mut sample = Sample::default();
-    examples().into_iter().for_each(|(case, _)| sample.add(case));
+    examples().into_iter().for_each(|example| sample.add(example.case));
     short(&mut sample);
     long(&mut sample);
     let mut r = Random::new(SEED);

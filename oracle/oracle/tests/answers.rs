@@ -1,12 +1,14 @@
-//! The original answers as the documents' examples say.
+//! The original answers as the documents' examples say, but in per-client matching by its own rule for
+//! levels that begin with `$`.
 
-use oracle::cases::examples;
+use oracle::cases::{examples, Example};
 use oracle::decide::{self, Options};
 use oracle::perclient;
 
 #[test]
 fn examples_of_matching() {
-    for (case, answer) in examples() {
+    for Example { case, answer, rust } in examples() {
+        assert_eq!(case.rust(), Some(rust), "{case}");
         assert_eq!(case.answer(), Some(answer), "{case}");
     }
 }

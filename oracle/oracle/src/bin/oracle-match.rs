@@ -2,7 +2,8 @@
 //!
 //! Lines `V`, text; `T` or `P`, filter, text, with a TAB between the fields. An
 //! answer that follows is ignored. Writes each line with the Rust's answer: yes,
-//! no, or invalid for T and P where the filter isn't one.
+//! no, or invalid for T and P where the filter isn't one. P is the Rust's own at
+//! every text, also where section 4.7 judges the port (document 02, b).
 
 use std::io::{self, BufRead, Write};
 
@@ -23,7 +24,7 @@ fn main() -> io::Result<()> {
     for line in io::stdin().lock().lines() {
         let line = line?;
         let case = read(&line).ok_or_else(|| io::Error::other(format!("not a question: {line}")))?;
-        writeln!(out, "{case}\t{}", case.answer().map_or("invalid", word))?;
+        writeln!(out, "{case}\t{}", case.rust().map_or("invalid", word))?;
     }
     out.flush()
 }

@@ -1,6 +1,7 @@
 //! oracle-perclient [--full]
 //!
-//! Cases of `perclient::run`, one a line, to their answers.
+//! Cases of `perclient::run`, one a line, to their answers: the Rust's own, also
+//! where section 4.7 judges the port (document 02, b).
 
 use std::io::{self, BufRead, Write};
 

@@ -1,6 +1,6 @@
 //! oracle-record
 //!
-//! Writes the sample of the Rust's answers (`record::sample`).
+//! Writes the sample of answers (`record::sample`).
 
 use std::io::{self, Write};
 
