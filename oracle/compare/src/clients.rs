@@ -35,7 +35,8 @@ fn reduced(asked: &Asked) -> (Asked, u64) {
         let mut lines = clients::lines(&asked.rules);
         lines.remove(at);
         let fewer = Asked { rules: lines.join(&b'\n'), ..asked.clone() };
-        if fewer.judge().number() != port(&fewer) {
+        let judged = fewer.judge();
+        if judged.answer().number() != port(&fewer) || !judged.is_sound() {
             asked = fewer;
         } else {
             at += 1;

@@ -17,6 +17,8 @@ const LINES: &[(&str, &str, &[&str])] = &[
     ("V", "yes; no", &["yes", "no"]),
     ("T", "yes; no", &["yes", "no"]),
     ("P", "yes; no", &["yes", "no"]),
+    ("P by 4.7: a level of the text begins with `$`", "yes; no", &["by 4.7: yes", "by 4.7: no"]),
+    ("P by 4.7, meant: the Rust's is the other answer", "no; yes", &["by 4.7 alone: yes", "by 4.7 alone: no"]),
     ("J, is it a document", "yes; no", &["yes", "no"]),
     ("J, meant: numbers that document 01 leaves out; over 8 brackets", "yes",
         &["intended: numbers", "intended: depth"]),
@@ -69,6 +71,15 @@ const LINES: &[(&str, &str, &[&str])] = &[
         &["subscribe: allow", "subscribe: refused", "subscribe: no rule"]),
     ("C, publish", "allow; not authorized; with the disconnect flag; no decision",
         &["publish: allow", "publish: refused", "publish: dropped", "publish: no rule"]),
+    ("C by 4.7: a level of the topic begins with `$`; subscribe", "allow, with the QoS; not authorized; no decision",
+        &["by 4.7, subscribe: allow", "by 4.7, subscribe: refused", "by 4.7, subscribe: no rule"]),
+    ("C by 4.7, publish", "allow; not authorized; with the disconnect flag; no decision",
+        &["by 4.7, publish: allow", "by 4.7, publish: refused", "by 4.7, publish: dropped", "by 4.7, publish: no rule"]),
+    ("C by 4.7, meant: subscribe is allowed; not authorized; no decision", "another answer or rule",
+        &["by 4.7 alone, subscribe: allow", "by 4.7 alone, subscribe: refused", "by 4.7 alone, subscribe: no rule"]),
+    ("C by 4.7, meant: publish is allowed; not authorized; with the disconnect flag; no decision", "another answer or rule",
+        &["by 4.7 alone, publish: allow", "by 4.7 alone, publish: refused", "by 4.7 alone, publish: dropped",
+            "by 4.7 alone, publish: no rule"]),
     ("C, either", "a superuser is allowed", &["superuser"]),
     ("C", "a line doesn't convert; by number 1, 5, 6, 7",
         &["no: 1, too long", "no: 5, not JSON", "no: 6, no rule", "no: 7, filled"]),
@@ -217,8 +228,8 @@ mod tests {
         tally.count_document(b"0\n", oracle::json::Judged::LineFeed, true);
         let line = |n: usize| table_line(&LINES[n], &tally);
         assert_eq!(line(0), "| V | yes; no | 1; 0 | 1 |\n");
-        assert_eq!(line(5), "| J, meant: an LF inside the line | yes | 1 | 1 not as meant |\n");
-        assert_eq!(line(10), "| R, meant: an LF inside the line | a rule | 0 | none came |\n");
+        assert_eq!(line(7), "| J, meant: an LF inside the line | yes | 1 | 1 not as meant |\n");
+        assert_eq!(line(12), "| R, meant: an LF inside the line | a rule | 0 | none came |\n");
     }
 
     /// The standing text has no count of a run.

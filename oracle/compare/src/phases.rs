@@ -13,7 +13,7 @@ use oracle::json::generate::with_line_feed;
 use oracle::json::lines::RICH;
 use oracle::json::short::{families, Family};
 use oracle::json::{self, judge, Judged};
-use oracle::matching::{self, checked, filter, tree};
+use oracle::matching::{checked, filter, has_dollar, plain, tree, Topic, Tree};
 use oracle::questions::{self, Asked, List, Reply};
 use oracle::rules::{self, Client, Judged as JudgedRule};
 use oracle::runtime;
@@ -67,19 +67,39 @@ pub fn short_filters(length: usize) -> Tally {
 /// T and P: each valid filter with each text, up to this length.
 pub fn short_pairs(length: usize) -> Tally {
     let texts = generate::all_texts(length);
-    let levels: Vec<_> = texts.iter().map(|t| checked(t)).collect();
+    let checked: Vec<_> = texts.iter().map(|t| Checked::new(t)).collect();
     let filters: Vec<_> = texts.iter().filter_map(|t| Some((t, filter(t)?))).collect();
     in_blocks(|block, tally| {
         let Some((f, topic)) = filters.get(block) else { return false };
         let tree = tree(topic);
-        for (text, levels) in texts.iter().zip(&levels) {
-            let port = port::tree_match(f.as_bytes(), text.as_bytes());
-            tally.count(Kind::T, f, text, tree.is_match(levels), port);
-            let port = port::plain_match(f.as_bytes(), text.as_bytes());
-            tally.count(Kind::P, f, text, topic.matches_str(text), port);
-        }
+        checked.iter().for_each(|text| compare_pair(f, topic, &tree, text, tally));
         true
     })
+}
+
+/// A checked text, with what is known of it before it meets a filter.
+struct Checked<'a> {
+    text: &'a str,
+    /// No levels where it is no valid filter.
+    levels: Topic,
+    dollar: bool,
+}
+
+impl Checked<'_> {
+    fn new(text: &str) -> Checked<'_> {
+        Checked { text, levels: checked(text), dollar: has_dollar(text) }
+    }
+}
+
+/// T and P of a filter, parsed and in a tree, and a text.
+#[inline]
+fn compare_pair(f: &str, topic: &Topic, tree: &Tree, checked: &Checked, tally: &mut Tally) {
+    let Checked { text, levels, dollar } = checked;
+    let rust = tree.is_match(levels);
+    tally.count(Kind::T, f, text, rust, port::tree_match(f.as_bytes(), text.as_bytes()));
+    let judged = plain(f, topic, text, *dollar);
+    let tree = (!levels.is_empty()).then_some(rust);
+    tally.count_plain(f, text, judged, tree, port::plain_match(f.as_bytes(), text.as_bytes()));
 }
 
 /// V, T and P of random filters and texts, until the time is up.
@@ -89,22 +109,17 @@ pub fn random(seed: u64, until: Instant) -> Tally {
         for _ in 0..1000 {
             let f = generate::filter(&mut r);
             compare_valid(&f, tally);
+            let parsed = filter(&f).map(|topic| (tree(&topic), topic));
             for _ in 0..4 {
                 let text = generate::text(&mut r, &f);
                 compare_valid(&text, tally);
-                compare_pair(&f, &text, tally);
+                if let Some((tree, topic)) = &parsed {
+                    compare_pair(&f, topic, tree, &Checked::new(&text), tally);
+                }
             }
         }
         Instant::now() < until
     })
-}
-
-fn compare_pair(f: &str, text: &str, tally: &mut Tally) {
-    let Some(topic) = filter(f) else { return };
-    let rust = matching::tree(&topic).is_match(&checked(text));
-    tally.count(Kind::T, f, text, rust, port::tree_match(f.as_bytes(), text.as_bytes()));
-    let rust = topic.matches_str(text);
-    tally.count(Kind::P, f, text, rust, port::plain_match(f.as_bytes(), text.as_bytes()));
 }
 
 /// J, and L at the limit, at the longest string of the line and one byte below.

@@ -9,6 +9,7 @@ use oracle::decide::Kind as QuestionKind;
 use oracle::events::{Event, History, Step};
 use oracle::inputs::{Judged as JudgedInput, Said};
 use oracle::json::{judge, Judged};
+use oracle::matching::Both;
 use oracle::questions::{self, List, Reply};
 use oracle::rules::{self, Client, Identity, Verdict};
 
@@ -16,14 +17,20 @@ use crate::histories::Judged as JudgedStep;
 
 /// The rows of the table: kind and what is judged. Intended are answers no to
 /// a line that serde_json reads, or the plugin takes for a rule, and document 01
-/// doesn't; and an address that only document 01 can have.
-const ROWS: [(&str, &str); 112] = [
+/// doesn't; and an address that only document 01 can have. By 4.7 are answers of
+/// plain matching where a level of the text begins with `$`: the Rust gives the
+/// same, or, by 4.7 alone, another.
+const ROWS: [(&str, &str); 130] = [
     ("V", "yes"),
     ("V", "no"),
     ("T", "yes"),
     ("T", "no"),
     ("P", "yes"),
     ("P", "no"),
+    ("P", "by 4.7: yes"),
+    ("P", "by 4.7: no"),
+    ("P", "by 4.7 alone: yes"),
+    ("P", "by 4.7 alone: no"),
     ("J", "yes"),
     ("J", "no"),
     ("J", "intended: numbers"),
@@ -98,6 +105,20 @@ const ROWS: [(&str, &str); 112] = [
     ("C", "publish: refused"),
     ("C", "publish: dropped"),
     ("C", "publish: no rule"),
+    ("C", "by 4.7, subscribe: allow"),
+    ("C", "by 4.7, subscribe: refused"),
+    ("C", "by 4.7, subscribe: no rule"),
+    ("C", "by 4.7, publish: allow"),
+    ("C", "by 4.7, publish: refused"),
+    ("C", "by 4.7, publish: dropped"),
+    ("C", "by 4.7, publish: no rule"),
+    ("C", "by 4.7 alone, subscribe: allow"),
+    ("C", "by 4.7 alone, subscribe: refused"),
+    ("C", "by 4.7 alone, subscribe: no rule"),
+    ("C", "by 4.7 alone, publish: allow"),
+    ("C", "by 4.7 alone, publish: refused"),
+    ("C", "by 4.7 alone, publish: dropped"),
+    ("C", "by 4.7 alone, publish: no rule"),
     ("C", "superuser"),
     ("C", "no: 1, too long"),
     ("C", "no: 5, not JSON"),
@@ -141,6 +162,7 @@ const fn first(kind: u8) -> usize {
     row
 }
 
+const PLAIN: usize = first(b'P');
 const DOCUMENTS: usize = first(b'J');
 const WITHIN: usize = first(b'L');
 const RULES: usize = first(b'R');
@@ -151,6 +173,8 @@ const EVENTS: usize = first(b'E');
 /// Questions in between.
 const IN_BETWEEN: usize = EVENTS + 12;
 const CLIENTS: usize = first(b'C');
+/// The decisions, of each decider.
+const DECISIONS: usize = 7;
 const EXPIRY: usize = first(b'X');
 const INPUTS: usize = first(b'W');
 /// What is said of their lines.
@@ -158,12 +182,15 @@ const SAID: usize = INPUTS + 5;
 const WORDS: [&str; 6] = ["done", "kept", "allow", "super", "refuse", "drop"];
 const ERRORS: [u32; 7] = [1, 2, 5, 7, 8, 9, 10];
 
+const ASKED: &str = "only valid filters are asked";
+
 /// So many differences of a row of Q, E or W are reduced, on each processor: it takes its time.
 const REDUCED: u64 = 20;
 
 /// A case that differs.
 enum Asked {
-    Match(Case),
+    /// The port's answer last.
+    Match(Case, bool),
     Document(Vec<u8>),
     Within(Vec<u8>, usize),
     /// The port's answer last.
@@ -184,7 +211,7 @@ impl Asked {
     /// The smallest is the least in this order.
     fn order(&self) -> (usize, &[u8], &[u8]) {
         match self {
-            Asked::Match(case) => (case.size(), case.filter.as_bytes(), case.text.as_bytes()),
+            Asked::Match(case, _) => (case.size(), case.filter.as_bytes(), case.text.as_bytes()),
             Asked::Document(line) | Asked::Within(line, _) | Asked::Rule(line, _) => (line.len(), line, &[]),
             Asked::Identity(line, client, _) => (line.len() + client.size(), line, client.id.as_bytes()),
             Asked::Open(text, ..) => (text.len(), text, &[]),
@@ -218,13 +245,32 @@ impl Default for Tally {
 }
 
 impl Tally {
-    /// Counts one case of V, T or P.
+    /// Counts one case of V or T.
     #[inline]
     pub fn count(&mut self, kind: Kind, filter: &str, text: &str, rust: bool, port: bool) {
         let row = 2 * kind as usize + !rust as usize;
         self.cases[row] += 1;
         if rust != port {
-            self.differ(row, Asked::Match(Case::new(kind, filter, text)));
+            self.differ(row, Asked::Match(Case::new(kind, filter, text), port));
+        }
+    }
+
+    /// Counts one case of P. Section 4.7's answer must be the Rust's wherever that tells it: the plain match
+    /// where no level begins with `$`, the tree match, `tree`, where the text is a valid filter.
+    #[inline]
+    pub fn count_plain(
+        &mut self,
+        filter: &str,
+        text: &str,
+        judged: Both<bool>,
+        tree: Option<bool>,
+        port: bool,
+    ) {
+        let row = PLAIN + 2 * decider(judged) + !judged.answer() as usize;
+        self.cases[row] += 1;
+        let sound = judged.is_sound() && tree.is_none_or(|tree| tree == judged.section47);
+        if judged.answer() != port || !sound {
+            self.differ(row, Asked::Match(Case::new(Kind::P, filter, text), port));
         }
     }
 
@@ -343,27 +389,17 @@ impl Tally {
     pub fn count_client(
         &mut self,
         asked: &clients::Asked,
-        rust: clients::Reply,
+        judged: Both<clients::Reply>,
         port: u64,
         reduce: impl FnOnce() -> (clients::Asked, u64),
     ) {
-        use clients::Reply::{NoDecision, NotAuthorized, Publishes, Refused, Subscribes};
-        let row = CLIENTS
-            + match rust {
-                Subscribes { rule: 0, .. } | Publishes { rule: 0 } => 7,
-                Subscribes { .. } => 0,
-                Publishes { .. } => 3,
-                NotAuthorized { disconnect: None, .. } => 1,
-                NotAuthorized { disconnect: Some(disconnect), .. } => 4 + disconnect as usize,
-                NoDecision => 2 + 4 * asked.publish as usize,
-                Refused { number, intended: false, .. } => [8, 8, 8, 8, 8, 9, 10, 11][number as usize],
-                Refused { number, intended: true, .. } => [12, 12, 12, 12, 12, 13, 13, 14][number as usize],
-            };
+        let row = CLIENTS + client_row(asked, judged);
         self.cases[row] += 1;
-        if rust.number() != port && self.differences[row] < REDUCED {
+        let differs = judged.answer().number() != port || !judged.is_sound();
+        if differs && self.differences[row] < REDUCED {
             let (asked, port) = reduce();
             self.differ(row, Asked::Client(asked, port));
-        } else if rust.number() != port {
+        } else if differs {
             self.differences[row] += 1;
         }
     }
@@ -479,6 +515,31 @@ fn answer_row(kind: QuestionKind, rust: Reply) -> usize {
     }
 }
 
+/// Who decides an answer of plain matching: the Rust, 4.7, or 4.7 alone.
+fn decider<T: Copy + PartialEq>(judged: Both<T>) -> usize {
+    match judged.dollar {
+        false => 0,
+        true => 1 + judged.is_apart() as usize,
+    }
+}
+
+/// The row of an answer, among those of per-client questions: decisions by their decider, then the others.
+fn client_row(asked: &clients::Asked, judged: Both<clients::Reply>) -> usize {
+    use clients::Reply::{NoDecision, NotAuthorized, Publishes, Refused, Subscribes};
+    let by = decider(judged);
+    let (by, row) = match judged.answer() {
+        Subscribes { rule: 0, .. } | Publishes { rule: 0 } => (3, 0),
+        Subscribes { .. } => (by, 0),
+        Publishes { .. } => (by, 3),
+        NotAuthorized { disconnect: None, .. } => (by, 1),
+        NotAuthorized { disconnect: Some(disconnect), .. } => (by, 4 + disconnect as usize),
+        NoDecision => (by, 2 + 4 * asked.publish as usize),
+        Refused { number, intended: false, .. } => (3, [1, 1, 1, 1, 1, 2, 3, 4][number as usize]),
+        Refused { number, intended: true, .. } => (3, [5, 5, 5, 5, 5, 6, 6, 7][number as usize]),
+    };
+    DECISIONS * by + row
+}
+
 /// The row of an event that has changed a table, among those of events; the next is of one that hasn't.
 fn done_row(event: &Event) -> usize {
     match event {
@@ -504,10 +565,12 @@ fn said_row(said: &Said) -> usize {
 /// The table, then each smallest difference in full.
 impl fmt::Display for Tally {
     fn fmt(&self, f: &mut fmt::Formatter<'_>) -> fmt::Result {
-        writeln!(f, "kind  answer                          cases  differences")?;
+        let mut line = |kind: &str, answer: &str, cases: &str, differences: &str| {
+            writeln!(f, "{kind:4}  {answer:32}  {cases:>14}  {differences:>11}")
+        };
+        line("kind", "answer", "cases", "differences")?;
         for (row, (kind, answer)) in ROWS.iter().enumerate() {
-            let (cases, differences) = (grouped(self.cases[row]), grouped(self.differences[row]));
-            writeln!(f, "{kind:4}  {answer:21}  {cases:>14}  {differences:>11}")?;
+            line(kind, answer, &grouped(self.cases[row]), &grouped(self.differences[row]))?;
         }
         self.smallest.iter().flatten().try_for_each(|asked| asked.fmt(f))
     }
@@ -516,13 +579,7 @@ impl fmt::Display for Tally {
 impl fmt::Display for Asked {
     fn fmt(&self, f: &mut fmt::Formatter<'_>) -> fmt::Result {
         let rust = match self {
-            Asked::Match(case) => {
-                writeln!(f, "\ndifference, {:?}: filter {:?}", case.kind, case.filter)?;
-                if case.kind != Kind::V {
-                    writeln!(f, "  text {:?}", case.text)?;
-                }
-                case.answer().expect("only valid filters are asked")
-            }
+            Asked::Match(case, port) => return fmt_match(f, case, *port),
             Asked::Document(line) => {
                 writeln!(f, "\ndifference, J: line b\"{}\"", line.escape_ascii())?;
                 writeln!(f, "  judged: {:?}", judge(line))?;
@@ -553,9 +610,9 @@ impl fmt::Display for Asked {
             Asked::Client(asked, port) => {
                 writeln!(f, "\ndifference, C: rules b\"{}\"", asked.rules.escape_ascii())?;
                 writeln!(f, "  {asked:?}")?;
-                let rust = asked.judge();
-                let number = rust.number();
-                return writeln!(f, "  judged: {rust:?}; the judge answers {number}, the port {port}");
+                let judged = asked.judge();
+                let number = judged.answer().number();
+                return writeln!(f, "  judged: {judged:?}; the judge answers {number}, the port {port}");
             }
             Asked::Times(times, port) => {
                 let number = clients::expiry_number(clients::expired(times));
@@ -571,6 +628,19 @@ impl fmt::Display for Asked {
         };
         writeln!(f, "  the judge answers {}, the port {}", word(rust), word(!rust))
     }
+}
+
+fn fmt_match(f: &mut fmt::Formatter<'_>, case: &Case, port: bool) -> fmt::Result {
+    writeln!(f, "\ndifference, {:?}: filter {:?}", case.kind, case.filter)?;
+    if case.kind != Kind::V {
+        writeln!(f, "  text {:?}", case.text)?;
+    }
+    if case.kind == Kind::P {
+        let tree = Case { kind: Kind::T, ..case.clone() }.rust().expect(ASKED);
+        writeln!(f, "  judged: {:?}; the Rust's tree match: {}", case.plain().expect(ASKED), word(tree))?;
+    }
+    let judged = case.answer().expect(ASKED);
+    writeln!(f, "  the judge answers {}, the port {}", word(judged), word(port))
 }
 
 fn fmt_judged(f: &mut fmt::Formatter<'_>, judged: impl fmt::Debug, number: u32, port: u32) -> fmt::Result {

@@ -158,6 +158,14 @@ pub fn text(r: &mut Random, filter: &str) -> String {
     cut(levels.join("/"), LIMIT + 1)
 }
 
+/// The text with `$` at the beginning of one of its levels.
+pub(crate) fn with_dollar(r: &mut Random, text: &str) -> String {
+    let mut levels: Vec<String> = text.split('/').map(String::from).collect();
+    let at = r.below(levels.len());
+    levels[at].insert(0, '$');
+    cut(levels.join("/"), LIMIT + 1)
+}
+
 /// The filter's levels, with something in place of its wildcards.
 fn follow(r: &mut Random, filter: &str) -> Vec<String> {
     let mut out = Vec::new();

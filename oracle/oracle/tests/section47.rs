@@ -4,8 +4,9 @@
 use std::collections::HashMap;
 
 use oracle::cases::{Case, Kind};
+use oracle::clients::{self, Reply};
 use oracle::generate::{self, Random};
-use oracle::matching::{checked, filter, has_dollar, plain, tree};
+use oracle::matching::{checked, filter, has_dollar, plain, tree, Both};
 use oracle::section47::takes;
 
 /// Filter, what it takes, and what it doesn't.
@@ -127,4 +128,24 @@ fn pairs_reached() {
             }
         }
     }
+}
+
+#[test]
+fn questions_reached() {
+    let (mut r, mut counts) = (Random::new(1), HashMap::new());
+    for asked in (0..20_000).flat_map(|_| clients::generate::questions(&mut r)) {
+        let judged: Both<Reply> = asked.judge();
+        assert!(judged.is_sound(), "{asked:?}");
+        let answer = match judged.answer() {
+            Reply::Refused { .. } => continue,
+            Reply::Subscribes { rule, .. } | Reply::Publishes { rule } if rule > 0 => "allow",
+            Reply::NotAuthorized { .. } => "refused",
+            _ => "none",
+        };
+        for place in places(&asked.topic) {
+            *counts.entry((place, asked.publish, answer, judged.is_apart())).or_insert(0) += 1;
+        }
+    }
+    assert_eq!(counts.len(), 3 * 2 * 3 * 2);
+    assert!(counts.values().all(|count| *count >= 20), "{counts:?}");
 }

@@ -4,7 +4,7 @@
 use serde_json::Value;
 
 use super::{is_rule, lines, Asked, Times, LINES, TEXT};
-use crate::generate::{filter, pad, text, Random, LIMIT};
+use crate::generate::{filter, pad, text, with_dollar, Random, LIMIT};
 use crate::json::generate::damaged;
 use crate::rules::{Lent, LINE};
 
@@ -28,6 +28,8 @@ const LEVELS: &[&str] = &[
     "${ipaddr}", "${protocol}", "${user${username}name}", "${client${username}id}", "${${username}}", "${clientid",
     "{clientid}", "${ClientId}", "a${clientid}b", "${clientid}${username}", "${username}${username}", "a+", "#a", "é", "%c",
 ];
+/// More wildcards, for topics with a level that begins with `$`.
+const WILD: &[&str] = &["a", "g7", "", "+", "+", "+", "$x", "${clientid}"];
 const NAMES: &[&str] = &[
     "",
     "a",
@@ -50,6 +52,15 @@ fn quoted(text: &str) -> String {
     Value::from(text).to_string()
 }
 
+/// Some of these levels, and of so many of a hundred `#`.
+fn levels(r: &mut Random, some: &[&str], hash: usize) -> String {
+    let mut levels: Vec<&str> = (0..1 + r.below(4)).map(|_| r.pick(some)).collect();
+    if r.percent(hash) {
+        levels.push("#");
+    }
+    levels.join("/")
+}
+
 /// A topic as it is configured.
 fn topic(r: &mut Random) -> String {
     let mut topic = match r.below(100) {
@@ -60,13 +71,8 @@ fn topic(r: &mut Random) -> String {
             piece.repeat(1 + r.below(12)) + r.pick(&["", "", "a", "#", "+a"])
         }
         23..=26 => pad(r.pick(LEVELS), LIMIT - 12 + r.below(14)),
-        _ => {
-            let mut levels: Vec<&str> = (0..1 + r.below(4)).map(|_| r.pick(LEVELS)).collect();
-            if r.percent(25) {
-                levels.push("#");
-            }
-            levels.join("/")
-        }
+        27..=46 => levels(r, WILD, 50),
+        _ => levels(r, LEVELS, 25),
     };
     match r.below(100) {
         0..=24 => topic.insert_str(0, "eq "),
@@ -147,7 +153,8 @@ fn client_text(r: &mut Random) -> String {
     }
 }
 
-/// A text that follows the topic of one of the lines, filled or as it is configured; or any.
+/// A text that follows the topic of one of the lines, filled or as it is configured; or any. One of four has
+/// a `$` more.
 fn topic_for(r: &mut Random, rules: &[u8], id: &str, name: &str) -> String {
     let lines = lines(rules);
     let own = match lines.len() {
@@ -167,7 +174,11 @@ fn topic_for(r: &mut Random, rules: &[u8], id: &str, name: &str) -> String {
     if eq && r.percent(75) {
         return own;
     }
-    text(r, &own)
+    let topic = text(r, &own);
+    match r.percent(25) {
+        true => with_dollar(r, &topic),
+        false => topic,
+    }
 }
 
 /// A rule to a client with the name `a`.

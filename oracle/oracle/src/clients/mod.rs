@@ -1,5 +1,6 @@
 //! Per-client rules and expiry, asked of `Rule::try_from` and `AuthInfo` of acl.rs, and where
-//! document 01 is narrower.
+//! document 01 is narrower. Where a level of the asked topic begins with `$`, section 4.7 says which
+//! filters take it, and acl.rs the rest.
 
 pub mod generate;
 pub mod sample;
@@ -21,7 +22,9 @@ use serde_json::Value;
 
 use crate::generate::LIMIT;
 use crate::json::{self, judge as judge_json};
+use crate::matching::{has_dollar, Both};
 use crate::rules::{Lent, LINE};
+use crate::section47;
 
 /// Document 01: bytes of an id or a name, of a text of rules, and lines, at most.
 const ID: usize = 64;
@@ -137,6 +140,16 @@ fn filled(value: &Value, client: &ConnectInfo) -> usize {
     rule.and_then(|rule| rule.topic.eq_topic_filter).map_or(0, |text| text.len())
 }
 
+/// The rule as section 4.7 matches: its filter becomes the topic itself as an exact name where it takes the
+/// topic, and otherwise nothing, which is no topic.
+fn by_section47(rule: &Rule, topic: &str) -> Rule {
+    let mut rule = rule.clone();
+    if let Some(filter) = rule.topic.topic_filter.take() {
+        rule.topic.eq_topic_filter = section47::takes(&filter.to_string(), topic).then(|| topic.into());
+    }
+    rule
+}
+
 impl Asked {
     fn connect_info(&self) -> ConnectInfo {
         connect_info(&self.id, self.name.get().map(|name| name.as_str()))
@@ -190,25 +203,35 @@ impl Asked {
         }
     }
 
-    /// The judge: document 01's numbers, else acl.rs. The rule that decides is the last of the least
-    /// number of first rules that decide, 0 for a superuser.
-    pub fn judge(&self) -> Reply {
+    /// The rules, or the refusal of the question or of the first line that has one.
+    fn read(&self) -> Result<Vec<Rule>, Reply> {
         let lines = lines(&self.rules);
         if let Some((number, line)) = self.refused(lines.len()) {
-            return Reply::Refused { number, line, intended: true };
+            return Err(Reply::Refused { number, line, intended: true });
         }
         let client = self.connect_info();
-        let mut rules = Vec::new();
-        for (i, line) in lines.into_iter().enumerate() {
-            match line_rule(line, &client) {
-                Ok(rule) => rules.push(rule),
-                Err((number, intended)) => return Reply::Refused { number, line: i + 1, intended },
-            }
-        }
-        let all = self.asked_of(&rules);
+        let refusal = |i: usize| move |(number, intended)| Reply::Refused { number, line: i + 1, intended };
+        lines.iter().enumerate().map(|(i, line)| line_rule(line, &client).map_err(refusal(i))).collect()
+    }
+
+    /// `AuthInfo`'s whole answer by these rules. The rule that decides is the last of the least number of
+    /// first rules that decide, 0 for a superuser.
+    fn decided(&self, rules: &[Rule]) -> Reply {
+        let all = self.asked_of(rules);
         let decides = |k: &usize| self.asked_of(&rules[..*k]).is_some();
         let rule = (0..=rules.len()).find(decides).unwrap_or(0);
         self.reply(all, rule)
+    }
+
+    /// The judge: document 01's numbers, else acl.rs, by its own matching and by section 4.7's.
+    pub fn judge(&self) -> Both<Reply> {
+        let dollar = has_dollar(&self.topic);
+        let rules = match self.read() {
+            Ok(rules) => rules,
+            Err(refused) => return Both { rust: refused, section47: refused, dollar },
+        };
+        let by_section47: Vec<Rule> = rules.iter().map(|rule| by_section47(rule, &self.topic)).collect();
+        Both { rust: self.decided(&rules), section47: self.decided(&by_section47), dollar }
     }
 
     pub fn size(&self) -> usize {

@@ -17,6 +17,9 @@ const TOPICS: &[&str] = &[
     r#""eq ${username}""#,
     r#""eq ""#,
     r#""eq""#,
+    r##""+/#""##,
+    r##""$x/#""##,
+    r#""eq a/$x""#,
     r#""a#""#,
     r#""""#,
     "5",
@@ -37,7 +40,7 @@ pub fn rule(mut n: usize) -> Option<Vec<u8>> {
 }
 
 const NAMES: &[Option<&str>] = &[None, Some("a"), Some("${clientid}"), Some("")];
-const CHECKED: &[&str] = &["a/+", "a/g7", "${clientid}", "g7/g7", "", "a"];
+const CHECKED: &[&str] = &["a/+", "a/g7", "${clientid}", "g7/g7", "", "a", "a/$x", "$x/a", "$x"];
 
 /// Subscribes and publishes of four clients with the id `g7`.
 pub fn questions(rules: &[u8]) -> Vec<Asked> {
