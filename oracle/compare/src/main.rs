@@ -1,18 +1,19 @@
 //! compare [SECONDS] [--seed N] [--length N] [--only KIND] [--write]
 //!
 //! Compares the port's exported functions with the original Rust: V, whether a
-//! text is a valid filter; T, the tree match; P, the plain match. First all
-//! texts over `a $ + # /`, for T and P up to the length, for V three longer;
-//! then random ones for a seventh of SECONDS. With serde_json: J, whether a line
-//! is a document; L, whether its strings are within a limit. First all short
-//! lines, then random ones for a seventh. With the plugin: R, whether a line is
+//! text is a valid filter; T, the tree match; P, the plain match, with section 4.7
+//! of MQTT where a level of the text begins with `$`. First all texts over
+//! `a $ + # /`, for T and P up to the length, for V three longer; then random ones
+//! for a seventh of SECONDS. With serde_json: J, whether a line is a document; L,
+//! whether its strings are within a limit. First all short lines, then random ones
+//! for a seventh. With the plugin: R, whether a line is
 //! a rule; I, whether it means a client. First all combinations of a rule's parts,
 //! then random ones for a seventh. And O, opening a store for a rule text; Q, the
 //! three questions on it. First all short lists, then random ones for a seventh.
 //! And E, histories: events on a store, and the three questions in between. First
-//! all short ones, then random ones for a seventh. With acl.rs: C, the per-client
-//! questions, first of all rules of a few parts, then random ones for a seventh; X,
-//! expiry, ten million times. And W, whole inputs of the program `decide`: first those
+//! all short ones, then random ones for a seventh. With acl.rs, and 4.7's matching
+//! as in P: C, the per-client questions, first of all rules of a few parts, then
+//! random ones for a seventh; X, expiry, ten million times. And W, whole inputs of the program `decide`: first those
 //! of the program `replays` and some that are always asked, then random ones for a seventh.
 //! With --only the phases that name the kind. With --write docs/COMPARISON.md is written, whole,
 //! from this run; not where the code, oracle/ or the kit changed meanwhile. Exit status 1 if

@@ -226,8 +226,15 @@ mod tests {
         let mut tally = Tally::default();
         tally.count(oracle::cases::Kind::V, "a", "", true, false);
         tally.count_document(b"0\n", oracle::json::Judged::LineFeed, true);
+        let both = |rust, section47, dollar| oracle::matching::Both { rust, section47, dollar };
+        // The matcher of section 4.7 parts from the Rust where it mustn't, and where it may.
+        tally.count_plain("a", "a", both(true, false, false), Some(true), true);
+        tally.count_plain("/#", "/$", both(false, true, true), Some(true), true);
         let line = |n: usize| table_line(&LINES[n], &tally);
         assert_eq!(line(0), "| V | yes; no | 1; 0 | 1 |\n");
+        assert_eq!(line(2), "| P | yes; no | 1; 0 | 1 |\n");
+        let meant = "| P by 4.7, meant: the Rust's is the other answer | no; yes | 1; 0 | all, as meant |\n";
+        assert_eq!(line(4), meant);
         assert_eq!(line(7), "| J, meant: an LF inside the line | yes | 1 | 1 not as meant |\n");
         assert_eq!(line(12), "| R, meant: an LF inside the line | a rule | 0 | none came |\n");
     }

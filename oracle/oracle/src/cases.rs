@@ -148,6 +148,7 @@ const MATCHES: &[Match] = &[
     same("a/#", "a/b/$c", true, true),
     apart("/#", "/$", true, true),
     same("a/+", "a/$", true, true),
+    same("$SYS/+", "$SYS/$a", true, true),
     apart("/+/", "/$/", true, true),
     // `+` takes one level, also one that begins with `$`.
     apart("/+", "/$/", false, false),

@@ -52,7 +52,7 @@ fn quoted(text: &str) -> String {
     Value::from(text).to_string()
 }
 
-/// Some of these levels, and of so many of a hundred `#`.
+/// One to four of these levels, and `#` behind so many of a hundred.
 fn levels(r: &mut Random, some: &[&str], hash: usize) -> String {
     let mut levels: Vec<&str> = (0..1 + r.below(4)).map(|_| r.pick(some)).collect();
     if r.percent(hash) {
@@ -71,7 +71,8 @@ fn topic(r: &mut Random) -> String {
             piece.repeat(1 + r.below(12)) + r.pick(&["", "", "a", "#", "+a"])
         }
         23..=26 => pad(r.pick(LEVELS), LIMIT - 12 + r.below(14)),
-        27..=46 => levels(r, WILD, 50),
+        27..=29 => "#".into(),
+        30..=46 => levels(r, WILD, 50),
         _ => levels(r, LEVELS, 25),
     };
     match r.below(100) {

@@ -140,8 +140,8 @@ fn filled(value: &Value, client: &ConnectInfo) -> usize {
     rule.and_then(|rule| rule.topic.eq_topic_filter).map_or(0, |text| text.len())
 }
 
-/// The rule as section 4.7 matches: its filter becomes the topic itself as an exact name where it takes the
-/// topic, and otherwise nothing, which is no topic.
+/// The rule as section 4.7 matches: in place of its filter it has the topic as an exact name where the filter
+/// takes it, else nothing, which hits no topic.
 fn by_section47(rule: &Rule, topic: &str) -> Rule {
     let mut rule = rule.clone();
     if let Some(filter) = rule.topic.topic_filter.take() {

@@ -17,6 +17,7 @@ const TOPICS: &[&str] = &[
     r#""eq ${username}""#,
     r#""eq ""#,
     r#""eq""#,
+    r##""#""##,
     r##""+/#""##,
     r##""$x/#""##,
     r#""eq a/$x""#,
