@@ -1,4 +1,4 @@
--- The worked examples of section 4.7 of OASIS MQTT and the traps of request b), evaluated, and two as statements about `Matches` of
+-- The worked examples of section 4.7 of OASIS MQTT and those of request b), evaluated, and two as statements about `Matches` of
 -- specs/Mqtt47.antt: it has members, and not all are. Document 01's marked examples are in crates/acl, in one list. Assumes nothing.
 use Prim.Native.Nat.{ℕ, zero, suc}
 use Prim.Native.String.{String}

@@ -1,5 +1,5 @@
--- `levels` against the places of separators: it is the one way in which 4.7 splits a text, the first level has the text's first byte, and
--- each other level starts behind a separator. By `Leveled`, or by level. Assumes nothing.
+-- `levels` against the places of separators: it is the one way in which 4.7 splits a text, and the first level has the text's first byte.
+-- By `Leveled`, or by level. Assumes nothing.
 use Prim.Native.Nat.{ℕ, zero, suc}
 use mathlib.Core.Path.{_≡_, refl, sym, ap, _∙_}
 use mathlib.Core.Bool.{Bool, true, false, cond, true≢false}

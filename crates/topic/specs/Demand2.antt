@@ -1,6 +1,6 @@
 -- Demand 2, of filters and matching: "Filters and matching are proved against a definition written from section 4.7 of OASIS MQTT 3.1.1 and
--- 5.0". That definition is in Mqtt47.antt, document 01's in Topic.antt: the contracts of `valid_filter`, `tree_match` and `plain_match` cite
--- the latter. Each claim holds for texts of any length; which texts it speaks of is in its premises.
+-- 5.0". That definition is in Mqtt47.antt, the documents' own in Topic.antt: the contracts of `valid_filter`, `tree_match` and `plain_match`
+-- cite the latter. Each claim holds for texts of any length; which texts it speaks of is in its premises.
 use Prim.Native.Nat.{ℕ}
 use mathlib.Core.Path.{_≡_}
 use mathlib.Core.Bool.{true}

@@ -14,6 +14,7 @@ earlierTakes [] (t ∷ text) = false
 earlierTakes (f ∷ filter) (t ∷ text) =
     cond (isHash f) (not (metadata t)) (cond (isPlus f && metadata t) (ends filter) (takesLevel f t && earlierTakes filter text))
 
+-- "the checked text is split without a validity test"
 unfoldable pub earlierMatch : List ℕ → List ℕ → Bool
 earlierMatch filter text = earlierTakes (levels filter) (levels text)
 

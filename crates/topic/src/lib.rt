@@ -1,4 +1,4 @@
-// Topic filters: their levels and validity, and the two ways of matching, T and P (document 01, request b) of document 02; topic.rs, trie.rs).
+// Topic filters: levels, validity, and the two ways of matching, T and P (document 01; document 02, b; topic.rs, trie.rs).
 ghost use mathlib.Core.Path.{_≡_};
 ghost use lib.ListN.{length};
 ghost use Rattle.topic.specs.Topic as spec;

@@ -1,7 +1,7 @@
-//! The original Rust, asked. Nothing here decides about access: every answer is
-//! one of `Topic`, `TopicTree`, `Rule`, `AclHandler::hook` or `AuthInfo`, or for a
-//! line of JSON serde_json's. One thing is decided here: which texts a filter takes
-//! in per-client matching, where a level of the text begins with `$` (`section47`).
+//! The original Rust, asked. Nothing here decides about access but `section47`, which
+//! says what a filter takes in per-client matching where a level of the text begins with
+//! `$`: every other answer is one of `Topic`, `TopicTree`, `Rule`, `AclHandler::hook` or
+//! `AuthInfo`, or for a line of JSON serde_json's.
 
 pub mod cases;
 pub mod clients;
