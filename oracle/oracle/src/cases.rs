@@ -129,7 +129,7 @@ const MATCHES: &[Match] = &[
     same("a/+", "a/#", true, true),
     same("a/+", "a/", true, true),
     same("a/+", "a", false, false),
-    // Document 02, b: a generator's steps, which the Rust doesn't pass, and its start.
+    // Document 02, b: a generator's start, and its steps, which the Rust doesn't pass.
     same("bench/g7/#", "bench/g7/start", true, true),
     apart("bench/g7/#", "bench/g7/$step", true, true),
     // No levels come before T's `$` rule. P tests no text.
