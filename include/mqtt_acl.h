@@ -30,9 +30,9 @@
 
    Between versions. MQTT_ACL_VERSION is that of this header, mqtt_acl_version() that of the library. While the first number is 0, a
    new second number may change names, arguments, the layout of a store and a decision (CHANGELOG.md says which). A new third number
-   changes none of these: it may add functions, refusal numbers from 11 on and the value 15 of mqtt_acl_what: a broker takes what it doesn't know as a denial. It may add
-   members at the end of mqtt_acl_client and mqtt_acl_authinfo: make these by mqtt_acl_client_of and mqtt_acl_authinfo_of, and set the
-   rest by name. The other structs get none. A number that has a meaning keeps it.
+   changes none of these: it may add functions, refusal numbers from 11 on and the value 15 of mqtt_acl_what: a broker takes what it
+   doesn't know as a denial. It may add members at the end of mqtt_acl_client and mqtt_acl_authinfo: make these by mqtt_acl_client_of and
+   mqtt_acl_authinfo_of, and set the rest by name. The other structs get none. A number that has a meaning keeps it.
 
    The life of a client, in calls on a store:
      connect       asked when its CONNECT comes: may it?

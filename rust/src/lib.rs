@@ -1,7 +1,7 @@
 //! Access rules of an MQTT broker: who may connect, subscribe and publish.
 //!
 //! The functions behind this crate are written in Rattle and proved: for any bytes and any numbers each gives
-//! the answer of document 01, the specification, which docs/SPEC.md retells, refusals too. This crate is the thin
+//! the answer of the specification, which docs/SPEC.md retells, refusals too. This crate is the thin
 //! layer that calls them from Rust: it lends slices, and turns the numbers that come back into enums. The layer is
 //! tested, not proved.
 //!
