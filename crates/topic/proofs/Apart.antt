@@ -55,25 +55,19 @@ first b t filter text e = by (eqb b plus) (eqb b hash) (eqb b t) refl refl refl 
     by false false true s m a q = record { single = s; multi = m; rest = λ h. q }
     by false false false s m a q = record { single = s; multi = m; rest = λ h. absurd (true≢false (sym h ∙ a)) }
 
--- the filter's first level is no wildcard
-no-hash : {filter : List ℕ} (text : List ℕ) {f : Level} {fs : List Level} → Leveled filter f fs → beginsApart filter text ≡ true → isHash f ≡ false
+-- the filter's first level is no wildcard, neither `#` nor `+`
+no-wildcard : {filter : List ℕ} (text : List ℕ) {f : Level} {fs : List Level} → Leveled filter f fs → beginsApart filter text ≡ true
+    → (isHash f ≡ false) × (isPlus f ≡ false)
 unfolding beginsApart isOnly same
-no-hash text nil e = refl
-no-hash text (start p d) e = refl
-no-hash [] (inside p d) e = absurd (true≢false (sym e))
-no-hash (t ∷ text) (inside {b} {text = filter} p d) e = rw (first b t filter text e .multi)
-
-no-plus : {filter : List ℕ} (text : List ℕ) {f : Level} {fs : List Level} → Leveled filter f fs → beginsApart filter text ≡ true → isPlus f ≡ false
-unfolding beginsApart isOnly same
-no-plus text nil e = refl
-no-plus text (start p d) e = refl
-no-plus [] (inside p d) e = absurd (true≢false (sym e))
-no-plus (t ∷ text) (inside {b} {text = filter} p d) e = rw (first b t filter text e .single)
+no-wildcard text nil e = (refl, refl)
+no-wildcard text (start p d) e = (refl, refl)
+no-wildcard [] (inside p d) e = absurd (true≢false (sym e))
+no-wildcard (t ∷ text) (inside {b} {text = filter} p d) e = let at = first b t filter text e in (rw (at .multi), rw (at .single))
 
 -- a level that is no wildcard takes its equal
-plain-takes : (f l : Level) (fs ls : List Level) → isHash f ≡ false → isPlus f ≡ false → takes (f ∷ fs) (l ∷ ls) ≡ (same f l && takes fs ls)
+plain-takes : (f l : Level) (fs ls : List Level) → (isHash f ≡ false) × (isPlus f ≡ false) → takes (f ∷ fs) (l ∷ ls) ≡ (same f l && takes fs ls)
 unfolding takes takesLevel
-plain-takes f l fs ls h p = rw (h, p)
+plain-takes f l fs ls h = rw (h .0, h .1)
 
 -- the first levels differ, or what is behind them doesn't match
 apart-rest : {filter text : List ℕ} {f l : Level} {fs ls : List Level} → Leveled filter f fs → Leveled text l ls → beginsApart filter text ≡ true
@@ -84,7 +78,7 @@ apart-rest (start p d) nil e = absurd (true≢false (sym e))
 apart-rest (inside p d) nil e = absurd (true≢false (sym e))
 apart-rest (start {b} {text = filter} p d) (start {b = t} {text = text} q c) e =
     let next = first b t filter text e .rest (eq-eqb b t (eqb-true b slash p ∙ sym (eqb-true t slash q))) in
-    plain-takes _ _ _ _ (no-hash text d next) (no-plus text d next) ∙ apart-rest d c next
+    plain-takes _ _ _ _ (no-wildcard text d next) ∙ apart-rest d c next
 apart-rest (start p d) (inside q c) e = refl
 apart-rest (inside p d) (start q c) e = refl
 apart-rest (inside {b} {text = filter} {level = f} {rest = fs} p d) (inside {b = t} {text = text} {level = l} {rest = ls} q c) e =
@@ -98,11 +92,11 @@ apart-taken : {filter text : List ℕ} {f l : Level} {fs ls : List Level} → Le
     → levelsMatch (f ∷ fs) (l ∷ ls) ≡ false
 unfolding levelsMatch
 apart-taken {text = text} {f} {l} {fs} {ls} d c e =
-    ap (λ (b : Bool). not (dollarRule (f ∷ fs) (l ∷ ls)) && b) (plain-takes f l fs ls (no-hash text d e) (no-plus text d e) ∙ apart-rest d c e) ∙ and-false (not (dollarRule (f ∷ fs) (l ∷ ls)))
+    ap (λ (b : Bool). not (dollarRule (f ∷ fs) (l ∷ ls)) && b) (plain-takes f l fs ls (no-wildcard text d e) ∙ apart-rest d c e) ∙ and-false (not (dollarRule (f ∷ fs) (l ∷ ls)))
 
 apart-ends : {filter : List ℕ} (text : List ℕ) {f : Level} {fs : List Level} → Leveled filter f fs → beginsApart filter text ≡ true → levelsMatch (f ∷ fs) [] ≡ false
 unfolding levelsMatch dollarRule takes ends
-apart-ends text d e = no-hash text d e
+apart-ends text d e = no-wildcard text d e .0
 
 pub apart-differs : (filter text : List ℕ) (valid : Bool) → beginsApart filter text ≡ true → levelsMatch (levels filter) (levelsIf valid text) ≡ false
 unfolding levelsIf

@@ -99,17 +99,9 @@ invalid-examples =
     T "#" "$a+" true ∷
     []
 
-pub mqtt-47 : all-hold mqtt-47-examples ≡ true
+pub worked : (all-hold mqtt-47-examples ≡ true) × (all-hold dollar-examples ≡ true) × (all-hold invalid-examples ≡ true)
 unfolding same extendFirst withByte levels isOnly wildcardFree validLevels validFilter metadata ends takesLevel takes dollarRule levelsMatch levelsIf checkedLevels treeMatch plainMatch
-mqtt-47 = refl
-
-pub dollar : all-hold dollar-examples ≡ true
-unfolding same extendFirst withByte levels isOnly wildcardFree validLevels validFilter metadata ends takesLevel takes dollarRule levelsMatch levelsIf checkedLevels treeMatch plainMatch
-dollar = refl
-
-pub invalid : all-hold invalid-examples ≡ true
-unfolding same extendFirst withByte levels isOnly wildcardFree validLevels validFilter metadata ends takesLevel takes dollarRule levelsMatch levelsIf checkedLevels treeMatch plainMatch
-invalid = refl
+worked = (refl, refl, refl)
 
 -- no byte of the text is this one
 abbrev lacks : ℕ → List ℕ → Bool
