@@ -1,6 +1,7 @@
 // Per-client rules and expiry (document 01, Per-client rules; rmqtt/src/acl.rs): `ask` answers by a text of rules, `reading` reads a line, its
 // members by `one_pass` where their names are plain, else by `members`; `words` has its two words, `filling` fills its topic. `times` compares
 // times.
+#![tactic(auto)]
 pub mod ask;
 mod filling;
 mod members;
@@ -21,7 +22,7 @@ pub enum Action {
 }
 
 // What is asked, but for the topic: a subscribe with its QoS, a publish with its QoS and whether it is retained.
-#[derive(Drop)]
+#[derive(Clone, Copy)]
 pub enum Asked {
     Subscribe(u64),
     Publish(u64, bool),

@@ -1,5 +1,6 @@
 // Events: connected, disconnected and session end on a store (document 01, Events). An event reads the rule text and writes each table
 // through its own stretch of the store; refused, it leaves every byte as it was.
+#![tactic(auto)]
 pub mod connecting;
 pub mod leaving;
 pub mod templates;
@@ -23,7 +24,7 @@ pub enum FilledTopic {
 }
 
 // The three tables.
-#[derive(Drop)]
+#[derive(Clone, Copy)]
 pub enum Table {
     Filters,
     Eqs,

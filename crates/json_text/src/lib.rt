@@ -1,5 +1,6 @@
 // One line of JSON, read without a copy: what stands where in the line (document 01, JSON line; RFC 8259). Callers check a line
 // once and then go by places in it; a place is an offset, and every function answers for every place.
+#![tactic(auto)]
 pub mod access;
 pub mod splitting;
 pub mod strings;
@@ -78,13 +79,13 @@ pub enum Checked {
     Valid(usize),
 }
 
-#[derive(Drop)]
+#[derive(Clone, Copy)]
 pub enum Place {
     At(usize),
     Nowhere,
 }
 
-#[derive(Drop)]
+#[derive(Clone, Copy)]
 pub enum Found {
     Is(u64),
     Absent,

@@ -1,5 +1,6 @@
 // What the programs do with one line of input, on slices: `answer` turns an event line of `decide` into its call and says what came of it,
 // `output` writes that as a line, `input` gathers lines from bytes (document 01, Marked examples).
+#![tactic(auto)]
 pub mod answer;
 mod asking;
 pub mod client;
@@ -12,7 +13,7 @@ use json_text::Found;
 use rule::{Given, Protocol};
 
 // The words of the output; the last but one is a per-client question's.
-#[derive(Drop)]
+#[derive(Clone, Copy)]
 pub enum Word {
     Done,
     Kept,
@@ -25,7 +26,7 @@ pub enum Word {
 }
 
 // What is said of a line: a word, with the deciding rule's number or an error's, and the line of a text that the error is of.
-#[derive(Drop)]
+#[derive(Clone, Copy)]
 pub struct Said {
     pub word: Word,
     pub number: u64,
@@ -88,7 +89,7 @@ pub enum HeaderRead {
 }
 
 // A line that has begun: how many of its bytes are in the buffer, and whether it is longer than that.
-#[derive(Drop)]
+#[derive(Clone, Copy)]
 pub struct Begun {
     pub length: usize,
     pub long: bool,
@@ -103,7 +104,7 @@ pub enum Taken {
 }
 
 // Rules that have begun: how many of their bytes are in the buffer, and whether a line begins behind them.
-#[derive(Drop)]
+#[derive(Clone, Copy)]
 pub struct Rules {
     pub length: usize,
     pub fresh: bool,

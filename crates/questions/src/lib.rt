@@ -1,5 +1,6 @@
 // Questions: connect, subscribe and publish on a store (document 01, Plugin decisions). `decision` decides on a rule text and used rows that
 // are lent as parts of their own; the three questions check their arguments and the store first.
+#![tactic(auto)]
 pub mod ask;
 pub mod decision;
 
@@ -7,7 +8,7 @@ use json_text::Place;
 use rule::{Refusal, Topics};
 
 // What is asked.
-#[derive(Drop)]
+#[derive(Clone, Copy)]
 pub enum Asked {
     Connect,
     Subscribe,

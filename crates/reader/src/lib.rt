@@ -1,6 +1,7 @@
 // The JSON reader of document 01: it keeps a reference to its line and the next offset. Its functions are thin: each takes it apart
 // and calls a covered function with the slice and the number. `first_kind` and `read_fields` have plain parameters: whoever goes over a line
 // calls them, and needs no walk of his own.
+#![tactic(auto)]
 ghost use Rattle.std.specs.Prelude.{◌≡◌};
 ghost use Rattle.json_text.specs.Json.{skip_blanks};
 ghost use Rattle.json_text.specs.Access.{kind_at};
@@ -10,14 +11,14 @@ use json_text::access::{first_element, kind_at, next_item};
 use json_text::values::skip_blanks;
 use json_text::{Kind, Place};
 
-#[derive(Drop)]
+#[derive(Clone, Copy)]
 pub struct Reader<'a> {
     pub line: &'a [u8],
     pub at: usize,
 }
 
 // The elements of a line's array, by their places.
-#[derive(Drop)]
+#[derive(Clone, Copy)]
 pub struct Fields {
     pub first: Place,
     pub second: Place,

@@ -8,7 +8,7 @@ use rule::refusal_number;
 const LONG: [u8; 65] = [b'x'; 65];
 
 // An answer: which case it is, by an initial, the rule or the number, and what else it carries.
-#[derive(Drop)]
+#[derive(Clone, Copy)]
 struct Answer {
     case: u8,
     number: u64,

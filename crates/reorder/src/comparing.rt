@@ -11,7 +11,7 @@ use table::{number_at, present, row_at};
 const ROWS: usize = 8;
 
 // A table of the two stores: its stretch, the size of a row, and where the header says how many are used.
-#[derive(Drop)]
+#[derive(Clone, Copy)]
 struct Place {
     from: usize,
     to: usize,

@@ -9,7 +9,7 @@ use acl::{EventAnswer, Given};
 use rule::refusal_number;
 
 // A session; the client by the digit of its id, `x` for the id that is too long; and the initial of the user name, `-` for none.
-#[derive(Drop)]
+#[derive(Clone, Copy)]
 pub enum Event {
     Connected(u64, u8, u8),
     Disconnected(u64, u8),

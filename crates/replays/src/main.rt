@@ -1,4 +1,5 @@
 // Replays whole inputs of `decide`, from 01.txt on until one is missing, and writes what it answers to each.
+#![tactic(auto)]
 use libc::STDOUT_FILENO;
 
 // One input, if there is a file with this number.

@@ -1,4 +1,5 @@
 // Plugin rules, read from lines of JSON, and whom they mean (document 01, Plugin rule and Identity; config.rs).
+#![tactic(auto)]
 pub mod agreement;
 pub mod ahead;
 pub mod fill;
@@ -80,13 +81,13 @@ pub enum Word {
 }
 
 // The name that a rule asks for, by the places of its strings in the line: the name's, the password's, and the flag.
-#[derive(Drop)]
+#[derive(Clone, Copy)]
 pub enum User {
     Anyone,
     Named(usize, Place, bool),
 }
 
-#[derive(Drop)]
+#[derive(Clone, Copy)]
 pub enum Protocol {
     Any,
     Is(u8),
@@ -102,7 +103,7 @@ pub struct Users {
 }
 
 // The values of an object's members that say something of users, by their places.
-#[derive(Drop)]
+#[derive(Clone, Copy)]
 pub struct MemberPlaces {
     pub user: Place,
     pub password: Place,
@@ -160,7 +161,7 @@ pub enum ControlRead {
 }
 
 // A topic of a rule, by the place of its string in the line.
-#[derive(Drop)]
+#[derive(Clone, Copy)]
 pub enum Topic {
     Filter(usize),
     Template(usize),
@@ -192,7 +193,7 @@ pub enum RuleRead {
 }
 
 // An optional lent text: its length, beside the slice. A length past the slice's end means the whole slice.
-#[derive(Drop)]
+#[derive(Clone, Copy)]
 pub enum Given {
     Absent,
     Length(usize),

@@ -1,5 +1,6 @@
 // The store (document 01, Store): counts, layout, open, the check behind number 3, and rows. The caller lends its bytes; what they mean
 // is `view` of specs/View.antt. The crates above go by offsets of `Counts` and lend each table on as a part of its own.
+#![tactic(auto)]
 pub mod check;
 pub mod opening;
 pub mod rows;
@@ -15,7 +16,7 @@ use rule::Refusal;
 pub const SESSIONS: usize = 256;
 
 // "R, F, E, N": the bytes for the rule text, and the rows that each table has room for.
-#[derive(Drop)]
+#[derive(Clone, Copy)]
 pub struct Counts {
     pub bytes: u16,
     pub filters: u16,
@@ -30,7 +31,7 @@ pub enum CountsRead {
 }
 
 // What the header of a store as laid out says: its counts, the length of its rule text, and the rows used of each table.
-#[derive(Drop)]
+#[derive(Clone, Copy)]
 pub struct Shape {
     pub counts: Counts,
     pub text: usize,

@@ -1,4 +1,5 @@
 // The programs on two descriptors: bytes to lines, a line to its answer, answers to buffered output. Nothing is decided here; `lines` does.
+#![tactic(auto)]
 pub mod clients;
 pub mod deciding;
 mod writing;
@@ -7,7 +8,7 @@ use lines::{Begun, Rules};
 
 // What is known between two bytes of the input: the first line, where the program has one, the rules and the line that has begun, the number of
 // the last line that was answered, and how many bytes of output wait in their buffer.
-#[derive(Drop)]
+#[derive(Clone, Copy)]
 pub struct Run {
     // Is the first line whole, and how long is it?
     pub headed: bool,

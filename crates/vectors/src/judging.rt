@@ -11,7 +11,7 @@ use crate::fields::{field, given_flag, lent, number, rest};
 // The kinds of questions: is it a valid filter (`V`), Tree match (`T`), Plain match (`P`), is it a JSON document (`J`), one whose
 // strings are within the limit (`L`), is it a rule, or why not (`R`), does the rule mean a client (`I`), connect, subscribe or
 // publish on a store (`Q`), and what does a client's own rule say (`C`).
-#[derive(Drop)]
+#[derive(Clone, Copy)]
 pub enum Kind {
     Valid,
     Tree,
@@ -32,7 +32,7 @@ pub enum Named {
 }
 
 // What a line comes to.
-#[derive(Drop)]
+#[derive(Clone, Copy)]
 pub enum Judged {
     Agrees(Kind),
     Differs(Kind),

@@ -38,7 +38,7 @@ fn one_more(mut counts: [u64; KINDS], kind: Kind) -> [u64; KINDS]
 }
 
 // The lines so far, by kind: those that agree, and all.
-#[derive(Drop)]
+#[derive(Clone, Copy)]
 pub struct Tallies {
     pub agreed: [u64; KINDS],
     pub asked: [u64; KINDS],
