@@ -1,0 +1,7 @@
+-- The flag decides. Assumes nothing.
+use borrow.Author.Rules.{rules}
+use Rattle.authinfo.proofs.members.chosen.Goals as goal
+
+pub returns-then-is : goal.returns-then-is
+returns-then-is c =
+    rw c.if-is.true c.member_value.ensures

@@ -1,0 +1,85 @@
+-- The loop's invariant: of each name, the last of the members from `i` on, behind others whose last are in `found`, is that of the object.
+-- The measure is what is left of the line. Assumes nothing.
+use mathlib.Core.Path.{◌≡◌, sym, ap, ◌∙◌}
+use Prim.Native.Nat.{ℕ, ◌-◌, ◌<◌}
+use native.Mathlib.Omega.{arith}
+use mathlib.Core.Bool.{true}
+use lib.ListN.{length}
+use Rattle.json_text.specs.declared.Separator.{Separator}
+use Rattle.json_text.specs.declared.Separator.TheVariants.{Comma}
+use Rattle.json_text.specs.declared.Step.{Step}
+use Rattle.json_text.proofs.ScanLaws.{comma_next}
+use Rattle.json_text.proofs.ValueLaws.{members_from, members_past, item_next}
+use Rattle.json_text.proofs.AccessSteps.{last_in, named_from, named_behind, named_on}
+use Rattle.authinfo.specs.Places.{places_at}
+use Rattle.authinfo.specs.declared.RulePlaces.{RulePlaces}
+use Rattle.authinfo.proofs.MemberLaws.{last_places, places_from, places_by, places_on, places_behind, places_step}
+use borrow.Author.Rules.{rules}
+use Rattle.authinfo.proofs.members.places_at.Goals as goal
+
+pub returns-in_default : goal.returns-in_default
+unfolding places_from named_from
+returns-in_default c =
+    c.no_places.ensures ∙ sym (places_by c.args.line.now c.args.at (sym c.first_member.ensures ∙ c.in_default.is))
+
+pub loop-i-init : goal.loop-i-init
+unfolding places_from named_from last_places
+loop-i-init c =
+    ap (λ (m : RulePlaces). last_places m (members_from 7 c.args.line.now c.in-At.first)) c.no_places-found.ensures
+    ∙ sym (places_by c.args.line.now c.args.at (sym c.first_member.ensures ∙ c.in-At.is))
+
+pub returns-in-Bad : goal.returns-in-Bad
+unfolding places_on named_on
+returns-in-Bad c =
+    let behind_item : {step : Step} →
+    c.item.result ≡ step → places_on c.args.line.now c.with_member-found.result step ≡ places_at c.args.line.now c.args.at = λ {step} e. ap (λ (m : RulePlaces). places_on c.args.line.now m step) c.with_member-found.ensures
+    ∙ (sym (places_step c.args.line.now c.loop-i.found c.loop-i.i c.loop-i-test.true (sym c.item.ensures ∙ e)) ∙ c.loop-i.invariant) in
+    c.no_places-in-Bad.ensures ∙ behind_item c.in-Bad.is
+
+pub returns-in-Close : goal.returns-in-Close
+unfolding places_behind named_behind
+unfolding places_on places_behind named_on
+returns-in-Close c =
+    let behind_item : {step : Step} →
+    c.item.result ≡ step → places_on c.args.line.now c.with_member-found.result step ≡ places_at c.args.line.now c.args.at = λ {step} e. ap (λ (m : RulePlaces). places_on c.args.line.now m step) c.with_member-found.ensures
+    ∙ (sym (places_step c.args.line.now c.loop-i.found c.loop-i.i c.loop-i-test.true (sym c.item.ensures ∙ e)) ∙ c.loop-i.invariant) in
+    let onward : {s : Separator} →
+    c.separator.result ≡ s → places_behind c.args.line.now c.with_member-found.result s ≡ places_at c.args.line.now c.args.at = λ e. ap (places_behind c.args.line.now c.with_member-found.result) (sym e ∙ c.separator.ensures) ∙ behind_item c.in-Next.is in
+    onward c.in-Close.is
+
+pub loop-i-smaller : goal.loop-i-smaller
+loop-i-smaller c =
+    let forward : {next : ℕ} → c.separator.result ≡ Comma next → c.loop-i.i < next = λ e. omega (
+      arith,
+      item_next 7 c.args.line.now true 0 c.loop-i.i (sym c.item.ensures ∙ c.in-Next.is),
+      comma_next c.args.line.now c.in-Next.c.at 0x7d (sym c.separator.ensures ∙ e),
+    ) in
+    omega (arith, forward c.in-Comma.is)
+
+pub loop-i-preserved : goal.loop-i-preserved
+unfolding places_behind named_behind last_places
+unfolding places_on places_behind named_on
+loop-i-preserved c =
+    let behind_item : {step : Step} →
+    c.item.result ≡ step → places_on c.args.line.now c.with_member-found.result step ≡ places_at c.args.line.now c.args.at = λ {step} e. ap (λ (m : RulePlaces). places_on c.args.line.now m step) c.with_member-found.ensures
+    ∙ (sym (places_step c.args.line.now c.loop-i.found c.loop-i.i c.loop-i-test.true (sym c.item.ensures ∙ e)) ∙ c.loop-i.invariant) in
+    let onward : {s : Separator} →
+    c.separator.result ≡ s → places_behind c.args.line.now c.with_member-found.result s ≡ places_at c.args.line.now c.args.at = λ e. ap (places_behind c.args.line.now c.with_member-found.result) (sym e ∙ c.separator.ensures) ∙ behind_item c.in-Next.is in
+    onward c.in-Comma.is
+
+pub returns-in-Neither : goal.returns-in-Neither
+unfolding places_behind named_behind
+unfolding places_on places_behind named_on
+returns-in-Neither c =
+    let behind_item : {step : Step} →
+    c.item.result ≡ step → places_on c.args.line.now c.with_member-found.result step ≡ places_at c.args.line.now c.args.at = λ {step} e. ap (λ (m : RulePlaces). places_on c.args.line.now m step) c.with_member-found.ensures
+    ∙ (sym (places_step c.args.line.now c.loop-i.found c.loop-i.i c.loop-i-test.true (sym c.item.ensures ∙ e)) ∙ c.loop-i.invariant) in
+    let onward : {s : Separator} →
+    c.separator.result ≡ s → places_behind c.args.line.now c.with_member-found.result s ≡ places_at c.args.line.now c.args.at = λ e. ap (places_behind c.args.line.now c.with_member-found.result) (sym e ∙ c.separator.ensures) ∙ behind_item c.in-Next.is in
+    c.no_places-in-Neither.ensures ∙ onward c.in-Neither.is
+
+pub returns : goal.returns
+unfolding last_places last_in
+returns c =
+    c.no_places-2.ensures
+    ∙ (ap (last_places c.loop-i.found) (sym (members_past 7 c.args.line.now c.loop-i.i c.loop-i-test.false)) ∙ c.loop-i.invariant)

@@ -1,0 +1,31 @@
+-- `events::leaving::mark_filters` meets its contract. The loop's invariant: `i` rows are passed, up to `at`, within the part, and once the rows
+-- from `at` on are marked too the marks are those of all rows. The measure is what is left of the part. Assumes nothing.
+use Prim.Native.Nat.{◌-◌}
+use mathlib.Core.Path.{sym, ◌∙◌}
+use mathlib.Core.Logic.{⊎_elim}
+use native.Mathlib.Omega.{arith}
+use borrow.Author.Rules.{rules}
+use lib.ListN.{length}
+use Rattle.store.specs.Layout.{filter_codec}
+use Rattle.store.proofs.PartLaws.{rows_from}
+use Rattle.events.specs.Event.{cleared}
+use Rattle.events.specs.Marks.{filter_row, filter_rows_in, note_rows_in}
+use Rattle.events.proofs.LeaveLaws.{Marking, marking_none, marking_more, marking_end}
+use Rattle.events.proofs.leaving.mark_filters.Goals as goal
+
+pub loop-at-init : goal.loop-at-init
+loop-at-init c =
+    marking_none _ _ _ _
+
+pub loop-at-preserved : goal.loop-at-preserved
+unfolding filter_codec filter_row
+loop-at-preserved c =
+    ⊎_elim
+    (λ w. marking_more c.loop-at.invariant (omega arith) (omega arith) (omega (arith, c.loop-at.invariant.lengths)) (sym c.row_clears.ensures ∙ w.0.taken) w.1)
+    (λ w. marking_more c.loop-at.invariant (omega arith) (omega arith) (omega (arith, c.loop-at.invariant.lengths)) (sym c.row_clears.ensures ∙ w.0.left) w.1)
+    c.if-row_clears.branch
+
+pub returns : goal.returns
+unfolding filter_codec
+returns c =
+    unfold filter_rows_in rows_from in marking_end c.loop-at.invariant c.loop-at-test.false

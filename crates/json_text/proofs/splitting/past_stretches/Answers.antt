@@ -1,0 +1,19 @@
+-- The loop's invariant: the line that begins at `i` ends where the line that begins at `at` does. The measure is what is left of
+-- the text. Assumes nothing.
+use Prim.Native.Nat.{◌+◌, ◌-◌}
+use native.Mathlib.Omega.{arith}
+use mathlib.Core.Path.{◌≡◌, refl, sym, ◌∙◌}
+use lib.ListN.{length}
+use borrow.Author.Rules.{rules}
+use borrow.Author.Tests.{not-false}
+use Rattle.json_text.specs.Lines.{line_at}
+use Rattle.json_text.proofs.LineLaws.{end_later}
+use Rattle.json_text.proofs.splitting.past_stretches.Goals as goal
+
+pub loop-i-init : goal.loop-i-init
+loop-i-init c =
+    refl
+
+pub loop-i-preserved : goal.loop-i-preserved
+loop-i-preserved c =
+    end_later c.args.text.now c.loop-i.i 32 (sym c.within_line.ensures ∙ c.if-not-within_line.false) ∙ c.loop-i.invariant

@@ -1,0 +1,28 @@
+-- A scan says whether there is a string and whether it fits. Assumes nothing.
+use native.Mathlib.Omega.{arith}
+use mathlib.Core.Path.{◌≡◌, refl, sym, ap, ◌∙◌}
+use lib.ListN.{length}
+use Rattle.json_text.proofs.StringLaws.{scanned-text, scanned_bad, copied_none, copied_over, copied_fits, found-fits}
+use Rattle.json_text.specs.Strings.{string_at}
+use borrow.Author.Rules.{rules}
+use Rattle.json_text.proofs.strings.decode_pieces.Goals as goal
+
+pub returns-then-buffer-n : goal.returns-then-buffer-n
+returns-then-buffer-n c =
+    let o = string_at c.args.line.now c.args.at in
+    let whole = copied_over c.args.buffer.now o _ (scanned-text c.args.at o _ _ (sym c.scan_string.ensures ∙ c.in-Text.is)) c.if-buffer-n.true in record { value = whole.0; buffer_after = whole.1 }
+
+pub write_decoded-requires : goal.write_decoded-requires
+write_decoded-requires c =
+    let o = string_at c.args.line.now c.args.at in
+    found-fits (length c.args.buffer.now) o _ (scanned-text c.args.at o _ _ (sym c.scan_string.ensures ∙ c.in-Text.is)) c.if-buffer-n.false
+
+pub returns-in-Bad : goal.returns-in-Bad
+returns-in-Bad c =
+    let o = string_at c.args.line.now c.args.at in
+    let whole = copied_none (length c.args.buffer.now) c.args.buffer.now o (scanned_bad c.args.at o (sym c.scan_string.ensures ∙ c.in-Bad.is)) in record { value = whole.0; buffer_after = whole.1 }
+
+pub returns-else-buffer-n : goal.returns-else-buffer-n
+returns-else-buffer-n c =
+    let o = string_at c.args.line.now c.args.at in
+    record { value = copied_fits (length c.args.buffer.now) o _ (scanned-text c.args.at o _ _ (sym c.scan_string.ensures ∙ c.in-Text.is)) c.if-buffer-n.false; buffer_after = c.write_decoded.ensures }

@@ -1,0 +1,23 @@
+-- Each return has the tests that led there: the value, and whether only blanks stand behind it. Assumes nothing.
+use mathlib.Core.Path.{sym, ◌∙◌}
+use lib.ListN.{length}
+use borrow.Author.Tests.{eq-eqb, ne_eqb}
+use Rattle.json_text.proofs.AccessSteps.{checked-bad, checked_by}
+use borrow.Author.Rules.{rules}
+use Rattle.json_text.proofs.values.check.Goals as goal
+
+pub returns-then-skip_blanks-line : goal.returns-then-skip_blanks-line
+returns-then-skip_blanks-line c =
+    sym
+    (checked_by c.args.line.now c.skip_blanks.ensures (sym c.value.ensures ∙ c.in-Next.is) c.skip_blanks-in-Next.ensures
+    (eq-eqb c.skip_blanks-in-Next.result (length c.args.line.now) c.if-skip_blanks-line.true))
+
+pub returns-else-skip_blanks-line : goal.returns-else-skip_blanks-line
+returns-else-skip_blanks-line c =
+    sym
+    (checked_by c.args.line.now c.skip_blanks.ensures (sym c.value.ensures ∙ c.in-Next.is) c.skip_blanks-in-Next.ensures
+    (ne_eqb c.skip_blanks-in-Next.result (length c.args.line.now) c.if-skip_blanks-line.false))
+
+pub returns-in-Bad : goal.returns-in-Bad
+returns-in-Bad c =
+    sym (checked-bad c.args.line.now c.skip_blanks.ensures (sym c.value.ensures ∙ c.in-Bad.is))

@@ -1,0 +1,14 @@
+-- Every answer of `open` is small. Assumes nothing.
+use mathlib.Core.Path.{ap, ◌∙◌}
+use Rattle.mqtt_acl.specs.Answers.{open_number}
+use Rattle.mqtt_acl.proofs.AnswerLaws.{open_small}
+use borrow.Author.Rules.{rules}
+use Rattle.mqtt_acl.proofs.mqtt_acl_open.Goals as goal
+
+pub opened_number-requires : goal.opened_number-requires
+opened_number-requires c =
+    rw «at After-slice_known2».«open».ensures.0 (open_small _ _ _)
+
+pub returns : goal.returns
+returns c =
+    record { value = c.opened_number.ensures ∙ ap open_number «at After-opened_number».«open».ensures.0; store_after = «at After-opened_number».«open».ensures.1 }

@@ -1,0 +1,22 @@
+-- The texts and the protocol that are given are those of the flags; every answer is small. Assumes nothing.
+use mathlib.Core.Path.{ap, ◌∙◌}
+use Rattle.questions.specs.Question.{publish}
+use Rattle.questions.specs.Decision.{ask}
+use Rattle.questions.specs.Parts.{protocol_of}
+use Rattle.mqtt_acl.specs.Answers.{packed}
+use Rattle.mqtt_acl.specs.Rules.{where_true, flag}
+use Rattle.mqtt_acl.proofs.AnswerLaws.{answer_small, protocol_placed}
+use borrow.Author.Rules.{rules}
+use Rattle.mqtt_acl.proofs.mqtt_acl_publish.Goals as goal
+
+pub publish_number-requires : goal.publish_number-requires
+publish_number-requires c =
+    rw c.publish.ensures (answer_small _ _)
+
+pub returns : goal.returns
+returns c =
+    let protocol = ap protocol_of c.given_protocol.ensures ∙ protocol_placed (where_true (flag c.args.has_protocol) c.args.protocol) in
+    c.publish_number.ensures
+    ∙ ap packed
+    (c.publish.ensures
+    ∙ (λ i. ask (publish c.args.earlier (record { id = c.args.id.now; c.given_text.ensures = c.given_text.ensures i; c.given_text-2.ensures = c.given_text-2.ensures i; c.given_text-3.ensures = c.given_text-3.ensures i; protocol = protocol i }) c.args.topic.now (c.flag.ensures i)) c.args.store.now))

@@ -1,0 +1,11 @@
+-- The test is the definition's. Assumes nothing.
+use mathlib.Core.Path.{ap, ◌∙◌}
+use Rattle.mqtt_acl.specs.Rules.{yes}
+use Rattle.mqtt_acl.specs.Unpacked.{parts_by, parts}
+use borrow.Author.Rules.{rules}
+use Rattle.mqtt_acl.proofs.unpacking.mqtt_acl_answer_allows.Goals as goal
+
+pub returns : goal.returns
+unfolding parts parts_by
+returns c =
+    c.yes.ensures ∙ ap yes c.between.ensures

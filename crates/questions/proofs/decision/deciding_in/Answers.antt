@@ -1,0 +1,92 @@
+-- `questions::decision::deciding_in` meets its contract. The invariant of the loop over the lines: `at` is at most the text's length, `n` at
+-- most `at`, the first rule that agrees, of the lines from `at` on, counted from `n`, is the first of all, and with `checked` these lines are
+-- rules. The measure is what is left of the text. The invariant of the loop over a line's topics: one of the topics from `next` on, of `turns`
+-- at the most, agrees if and only if one of all does. The measure is `turns`. Assumes nothing.
+use Prim.Native.Nat.{◌-◌}
+use mathlib.Core.Path.{◌≡◌, refl, sym, ap, ◌∙◌}
+use mathlib.Core.Bool.{true}
+use mathlib.Core.Logic.{⊎_elim}
+use native.Mathlib.Omega.{arith}
+use lib.ListN.{length, drop}
+use Rattle.json_text.specs.Access.{first_item}
+use Rattle.json_text.specs.Lines.{lines}
+use Rattle.json_text.proofs.LineLaws.{line_within}
+use Rattle.rule.specs.Places.{given}
+use Rattle.questions.specs.Parts.{protocol_of, every_rule, some_topic_from}
+use Rattle.questions.proofs.DecisionLaws.{Walks, here, none_decides, here_less, here_differs, here_passes, all_decides, topic_decides, eq_decides, filter_decides, some_end, some_none}
+use Rattle.questions.proofs.PassLaws.{some_passed, every_here, next_line_lem}
+use borrow.Author.Rules.{rules}
+use Rattle.questions.proofs.decision.deciding_in.Goals as goal
+
+pub rules-init : goal.rules-init
+rules-init c =
+    ((omega arith, omega arith, refl), c.requires)
+
+pub overflow_add-at : goal.overflow_add-at
+overflow_add-at c =
+    omega (arith, line_within c.args.rules.now c.rules.at c.rules.invariant.0.0, ap length c.line_at-line.ensures)
+
+pub head_of-requires : goal.head_of-requires
+head_of-requires c =
+    λ k. (every_here _ _ c.if-rules-at.false c.line_at-line.ensures (next_line_lem _ _ c.line_at-line.ensures c.line_behind-at.ensures) (c.rules.invariant.1 k)).0
+
+pub rules-smaller-in-Differs : goal.rules-smaller-in-Differs
+rules-smaller-in-Differs c =
+    here_less (here c.rules.invariant.0 c.if-rules-at.false c.line_at-line.ensures (next_line_lem _ _ c.line_at-line.ensures c.line_behind-at.ensures))
+
+pub rules-preserved-in-Differs : goal.rules-preserved-in-Differs
+rules-preserved-in-Differs c =
+    (
+  here_differs (here c.rules.invariant.0 c.if-rules-at.false c.line_at-line.ensures (next_line_lem _ _ c.line_at-line.ensures c.line_behind-at.ensures))
+      (sym c.head_of.ensures ∙ c.in-Differs.is),
+  λ k. (every_here _ _ c.if-rules-at.false c.line_at-line.ensures (next_line_lem _ _ c.line_at-line.ensures c.line_behind-at.ensures) (c.rules.invariant.1 k)).1,
+)
+
+pub topics-init : goal.topics-init
+topics-init c =
+    ap (some_topic_from _ _ _) c.first_element-next.ensures
+
+pub pass_topic-requires : goal.pass_topic-requires
+pass_topic-requires c =
+    c.valid_filter-valid.ensures
+
+pub topics-preserved : goal.topics-preserved
+topics-preserved c =
+    sym (some_passed _ _ c.topics.turns c.topics-test.true c.in-At.is (sym c.pass_topic.ensures ∙ c.in-Onward.is)) ∙ c.topics.invariant
+
+pub filter_row_agrees-requires : goal.filter_row_agrees-requires
+filter_row_agrees-requires c =
+    c.valid_filter-valid.ensures
+
+pub rules-smaller : goal.rules-smaller
+rules-smaller c =
+    here_less (here c.rules.invariant.0 c.if-rules-at.false c.line_at-line.ensures (next_line_lem _ _ c.line_at-line.ensures c.line_behind-at.ensures))
+
+pub rules-preserved : goal.rules-preserved
+rules-preserved c =
+    let passed = sym c.topics.invariant ∙ ⊎_elim (λ w. some_none _ _ _ _ w.left) (λ w. some_end _ _ _ w.2.given.1) c.topics-test.branch in (
+      here_passes (here c.rules.invariant.0 c.if-rules-at.false c.line_at-line.ensures (next_line_lem _ _ c.line_at-line.ensures c.line_behind-at.ensures))
+          (sym c.head_of.ensures ∙ c.in-Agrees.is) c.in-Listed.is passed
+          (sym c.eq_row_agrees.ensures ∙ c.if-eq_row_agrees.false) (sym c.filter_row_agrees.ensures ∙ c.if-filter_row_agrees.false),
+      λ k. (every_here _ _ c.if-rules-at.false c.line_at-line.ensures (next_line_lem _ _ c.line_at-line.ensures c.line_behind-at.ensures) (c.rules.invariant.1 k)).1,
+    )
+
+pub returns-then-decided-eq0 : goal.returns-then-decided-eq0
+returns-then-decided-eq0 c =
+    ⊎_elim (λ w. none_decides _ _ _ _ _ _ c.rules.n c.rules.at c.rules.invariant.0 w.0.taken)
+    (⊎_elim (λ w. absurd (omega (arith, w.13)))
+    (⊎_elim (λ w. absurd (omega (arith, w.23)))
+    (⊎_elim (λ w. absurd (omega (arith, w.19))) (λ w. absurd (omega (arith, w.21))))))
+    c.if-rules-at.branch
+
+pub returns : goal.returns
+returns c =
+    ⊎_elim (λ w. absurd (c.if-decided-eq0.false w.5))
+    (⊎_elim (λ w. all_decides (here c.rules.invariant.0 w.0.left w.1.ensures (next_line_lem _ _ w.1.ensures w.2.ensures)) (sym w.3.ensures ∙ w.5.given.1) w.9 w.10 w.13 w.8.given.1)
+    (⊎_elim
+    (λ w. topic_decides (here c.rules.invariant.0 w.0.left w.1.ensures (next_line_lem _ _ w.1.ensures w.2.ensures)) (sym w.3.ensures ∙ w.5.given.1) w.19 w.20 w.23 w.8.given.1
+    (sym w.11.inv ∙ some_passed _ _ w.11.turns w.12.taken w.14.given.1 (sym w.16.ensures ∙ w.18.given.1)))
+    (⊎_elim
+    (λ w. eq_decides (here c.rules.invariant.0 w.0.left w.1.ensures (next_line_lem _ _ w.1.ensures w.2.ensures)) (sym w.3.ensures ∙ w.5.given.1) w.15 w.16 w.19 w.8.given.1 (sym w.13.ensures ∙ w.14.taken))
+    (λ w. filter_decides (here c.rules.invariant.0 w.0.left w.1.ensures (next_line_lem _ _ w.1.ensures w.2.ensures)) (sym w.3.ensures ∙ w.5.given.1) w.17 w.18 w.21 w.8.given.1 (sym w.15.ensures ∙ w.16.taken)))))
+    c.if-rules-at.branch

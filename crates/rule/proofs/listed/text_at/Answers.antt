@@ -1,0 +1,19 @@
+-- By the place, and the kind of the value there. Assumes nothing.
+use mathlib.Core.Path.{sym, ap, ◌∙◌}
+use Rattle.rule.specs.Members.{text_from}
+use Rattle.rule.proofs.MemberLaws.{text_here}
+use borrow.Author.Rules.{rules}
+use Rattle.rule.proofs.listed.text_at.Goals as goal
+
+pub returns-then-is_text : goal.returns-then-is_text
+returns-then-is_text c =
+    sym (ap (text_from c.args.line.now) c.in-At.is ∙ text_here c.args.line.now _ (sym c.is_text.ensures ∙ c.if-is_text.true))
+
+pub returns-else-is_text : goal.returns-else-is_text
+returns-else-is_text c =
+    sym (ap (text_from c.args.line.now) c.in-At.is ∙ text_here c.args.line.now _ (sym c.is_text.ensures ∙ c.if-is_text.false))
+
+pub returns-in-Nowhere : goal.returns-in-Nowhere
+unfolding text_from
+returns-in-Nowhere c =
+    sym (ap (text_from c.args.line.now) c.in-Nowhere.is)

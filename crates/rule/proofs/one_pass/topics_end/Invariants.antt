@@ -1,0 +1,20 @@
+-- The loop's invariant: if topics, no more than may still come, stand from `i` on up to a place, then all topics do. The measure is how many
+-- may still come. Assumes nothing.
+use Prim.Native.Nat.{ℕ, ◌+◌, ◌-◌, ◌≤◌}
+use native.Mathlib.Omega.{arith}
+use mathlib.Core.Path.{sym, ◌∙◌}
+use Rattle.json_text.proofs.ScanLaws.{at_within}
+use Rattle.rule.specs.Limits.{topics_limit}
+use Rattle.rule.specs.OnePass.{TopicTo, TopicsTo}
+use Rattle.rule.proofs.MemberLaws.{array_opens}
+use Rattle.rule.proofs.OnePassLaws.{answered, TopicsFrom, last_topic, next_topic, topics_read}
+use borrow.Author.Rules.{rules}
+use Rattle.rule.proofs.one_pass.topics_end.Given as goal
+
+abbrev pub invariant-loop-n : goal.invariant-loop-n
+invariant-loop-n l =
+    (l.n ≤ topics_limit) × ((end : ℕ) → TopicsFrom l.line l.i (topics_limit - l.n) end → TopicsTo l.line l.at end)
+
+abbrev pub decreases-loop-n : goal.decreases-loop-n
+decreases-loop-n l =
+    topics_limit - l.n

@@ -1,0 +1,32 @@
+-- Each return has the tests that led there: the string that was decoded, and what it is. Assumes nothing.
+use mathlib.Core.Path.{sym, ◌∙◌}
+use Rattle.json_text.specs.Strings.{string_at}
+use Rattle.rule.proofs.TopicLaws.{told, eq_by, eq_long, eq_none}
+use borrow.Author.Rules.{rules}
+use Rattle.rule.proofs.topic_list.decoded_eq.Goals as goal
+
+pub slice_bounds-text-end : goal.slice_bounds-text-end
+slice_bounds-text-end c =
+    (told _ _ (string_at c.args.line.now c.args.at) _ (sym c.decode.ensures.value ∙ c.in-Length.is) c.decode.ensures.buffer_after).room
+
+pub slice_bounds-is_template-end : goal.slice_bounds-is_template-end
+slice_bounds-is_template-end c =
+    sym (told _ _ (string_at c.args.line.now c.args.at) _ (sym c.decode.ensures.value ∙ c.in-Length.is) c.decode.ensures.buffer_after).long
+
+pub returns-then-is_template : goal.returns-then-is_template
+returns-then-is_template c =
+    let h = told _ _ (string_at c.args.line.now c.args.at) _ (sym c.decode.ensures.value ∙ c.in-Length.is) c.decode.ensures.buffer_after in
+    sym (eq_by c.args.line.now c.args.at h (sym c.is_template.ensures ∙ c.if-is_template.true))
+
+pub returns-else-is_template : goal.returns-else-is_template
+returns-else-is_template c =
+    let h = told _ _ (string_at c.args.line.now c.args.at) _ (sym c.decode.ensures.value ∙ c.in-Length.is) c.decode.ensures.buffer_after in
+    sym (eq_by c.args.line.now c.args.at h (sym c.is_template.ensures ∙ c.if-is_template.false))
+
+pub returns-in-TooLong : goal.returns-in-TooLong
+returns-in-TooLong c =
+    sym (eq_long c.args.line.now c.args.at (sym c.decode.ensures.value ∙ c.in-TooLong.is))
+
+pub returns-in-NoText : goal.returns-in-NoText
+returns-in-NoText c =
+    sym (eq_none c.args.line.now c.args.at (sym c.decode.ensures.value ∙ c.in-NoText.is))

@@ -1,0 +1,31 @@
+-- `table::remove` meets its contract. The loop's invariant, `Removing`: the rows passed that stay are closed up to before `to`, and from `from`
+-- on the table is as it was. The measure is what is left of `used`. Assumes nothing.
+use Prim.Native.Nat.{◌-◌}
+use mathlib.Core.Path.{sym, ◌∙◌}
+use mathlib.Core.Logic.{⊎_elim}
+use native.Mathlib.Omega.{arith}
+use borrow.Author.Rules.{rules}
+use Rattle.table.proofs.RowLaws.{rows_short, rows_end, Removing, removing_none, removing_marked, removing_moved, removing_end}
+use Rattle.table.proofs.remove.Goals as goal
+
+pub loop-i-init : goal.loop-i-init
+loop-i-init c =
+    removing_none _ _ _ _
+
+pub returns-then-table-from : goal.returns-then-table-from
+returns-then-table-from c =
+    let short = rows_short c.args.size (c.args.used - c.loop-i.i) c.loop-i.from c.args.table.now (omega arith) in
+    let end = removing_end c.loop-i.invariant short in
+    record { value = end.0; table_after = c.clear.ensures ∙ end.1 }
+
+pub loop-i-preserved : goal.loop-i-preserved
+loop-i-preserved c =
+    ⊎_elim
+    (λ w. rw (w.1, w.2, w.3, w.4) (removing_marked c.loop-i.invariant c.loop-i-test.true (omega arith) (sym c.is_marked.ensures ∙ w.0.taken)))
+    (λ w. rw (w.5, w.2.ensures, w.6, w.7, w.8) (removing_moved c.loop-i.invariant c.loop-i-test.true (omega arith) (sym c.is_marked.ensures ∙ w.0.left)))
+    c.if-is_marked.branch
+
+pub returns : goal.returns
+returns c =
+    let end = removing_end c.loop-i.invariant (rows_end _ _ _ _ c.loop-i-test.false) in
+    record { value = end.0; table_after = c.clear-2.ensures ∙ end.1 }

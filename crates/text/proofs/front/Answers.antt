@@ -1,0 +1,14 @@
+-- A number past the end of the text means all of it. Assumes nothing.
+use mathlib.Core.Path.{sym}
+use native.Mathlib.Omega.{arith}
+use borrow.Author.Rules.{rules}
+use lib.Seq.{length-take-le, take_all}
+use Rattle.text.proofs.front.Goals as goal
+
+pub slice_bounds-result-end : goal.slice_bounds-result-end
+slice_bounds-result-end c =
+    sym (length-take-le c.args.n c.args.text.now (omega arith))
+
+pub returns : goal.returns
+returns c =
+    sym (take_all c.args.n c.args.text.now (omega arith))

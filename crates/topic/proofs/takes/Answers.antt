@@ -1,0 +1,25 @@
+-- The loop's invariant: what the walk comes to is what the levels come to. The measure is what is left of the filter while the walk
+-- is not done. Assumes nothing.
+use mathlib.Core.Path.{◌≡◌, sym, ap₂, ◌∙◌}
+use borrow.Author.Tests.{not-true, not-false}
+use Rattle.topic.specs.Topic.{levels, takes}
+use Rattle.topic.proofs.Places.{comes_to, comes_done, left, levels_all, step_nearer}
+use borrow.Author.Rules.{rules}
+use Rattle.topic.proofs.takes.Goals as goal
+
+pub loop-walk-init : goal.loop-walk-init
+unfolding comes_to
+loop-walk-init c =
+    ap₂ takes (levels_all c.args.filter.now) (levels_all c.args.text.now)
+
+pub loop-walk-smaller : goal.loop-walk-smaller
+loop-walk-smaller c =
+    rw c.step-walk.ensures (step_nearer c.args.filter.now c.args.text.now c.loop-walk.walk (not-true _ c.loop-walk-test.true)).less
+
+pub loop-walk-preserved : goal.loop-walk-preserved
+loop-walk-preserved c =
+    rw c.step-walk.ensures ((step_nearer c.args.filter.now c.args.text.now c.loop-walk.walk (not-true _ c.loop-walk-test.true)).comes ∙ c.loop-walk.invariant)
+
+pub returns : goal.returns
+returns c =
+    sym (comes_done c.args.filter.now c.args.text.now c.loop-walk.walk (not-false _ c.loop-walk-test.false)) ∙ c.loop-walk.invariant

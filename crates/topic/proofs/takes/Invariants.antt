@@ -1,0 +1,16 @@
+-- The loop's invariant: what the walk comes to is what the levels come to. The measure is what is left of the filter while the walk
+-- is not done. Assumes nothing.
+use mathlib.Core.Path.{◌≡◌, sym, ap₂, ◌∙◌}
+use borrow.Author.Tests.{not-true, not-false}
+use Rattle.topic.specs.Topic.{levels, takes}
+use Rattle.topic.proofs.Places.{comes_to, comes_done, left, levels_all, step_nearer}
+use borrow.Author.Rules.{rules}
+use Rattle.topic.proofs.takes.Given as goal
+
+abbrev pub invariant-loop-walk : goal.invariant-loop-walk
+invariant-loop-walk l =
+    comes_to l.filter l.text l.walk ≡ takes (levels l.filter) (levels l.text)
+
+abbrev pub decreases-loop-walk : goal.decreases-loop-walk
+decreases-loop-walk l =
+    left l.filter l.walk

@@ -1,0 +1,11 @@
+-- The answer to the line's question, against the recorded one. Assumes nothing.
+use Rattle.std.proofs.Common.{◌∙◌, ap₂, rules}
+use Rattle.topic.specs.Topic.{tree_match}
+use Rattle.vectors.specs.declared.judging.Kind.TheVariants.{Tree}
+use Rattle.vectors.specs.Judging.{compared, asked}
+use Rattle.vectors.proofs.judging.tree_line.Goals as goal
+
+pub returns : goal.returns
+unfolding asked
+returns c =
+    c.compared.ensures ∙ ap₂ (compared Tree) (c.tree_match-answer.ensures ∙ ap₂ tree_match c.field.ensures c.field-2.ensures) c.rest.ensures
