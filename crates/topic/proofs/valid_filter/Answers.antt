@@ -45,7 +45,7 @@ loop-i-preserved-else-i-text c =
 
 pub loop-i-preserved : goal.loop-i-preserved
 loop-i-preserved c =
-    (omega arith, sym (scan_other c.args.text.now c.loop-i.i c.loop-i-test.true c.loop-i.starts c.in_default.rest.0.0.1 c.in_default.rest.0.1 c.in_default.rest.1) ∙ c.loop-i.invariant.1)
+    (omega arith, sym (scan_other c.args.text.now c.loop-i.i c.loop-i-test.true c.loop-i.starts (λ e. omega arith) (λ e. omega arith) (λ e. omega arith)) ∙ c.loop-i.invariant.1)
 
 pub returns : goal.returns
 unfolding scan

@@ -33,14 +33,13 @@ returns-then-x-y c e =
     }
 
 pub loop-i-preserved : goal.loop-i-preserved
-loop-i-preserved c =
-    (
-      omega arith,
-      (
-        c.loop-i.invariant.1.0,
-        below_more _ _ c.loop-i.invariant.1.1 (word_whole c.loop-i.i c.args.a.now c.loop-i-test.true ∙ (cc) ∙ sym (word_whole c.loop-i.i c.args.b.now (omega arith))),
-      ),
-    )
+loop-i-preserved c = (
+  omega arith,
+  (
+    c.loop-i.invariant.1.0,
+    below_more _ _ c.loop-i.invariant.1.1 (word_whole c.loop-i.i c.args.a.now c.loop-i-test.true ∙ (cc) ∙ sym (word_whole c.loop-i.i c.args.b.now (omega arith))),
+  ),
+)
 
 pub returns : goal.returns
 returns c e =
