@@ -58,6 +58,7 @@ skipped (suc k) (b ∷ s) = ap (grown []) (skipped k s) ∙ grown-ahead [] k (st
 -- a string from a place on, by the piece that stands there
 module _ (line : List ℕ) (i : ℕ) (h : i < length line) where
   rest_here : (n : ℕ) → 1 ≤ n → (t : List ℕ) → grown t (string_from (n - 1) (drop (suc i) line)) ≡ ahead t n (string_from zero (drop (i + n) line))
+  rest_here zero k t = elim k [ ]
   rest_here (suc n) k t =
       ap (grown t) (ap (λ (m : ℕ). string_from m (drop (suc i) line)) less ∙ (skipped n (drop (suc i) line) ∙ ap (λ (l : List ℕ). ahead [] n (string_from zero l)) (drop-drop n (suc i) line ∙ ap (λ (m : ℕ). drop m line) next)))
       ∙ grown-ahead t n (string_from zero (drop (i + suc n) line))
