@@ -1,17 +1,14 @@
 -- The loop's invariant: what the elements from `i` on come to, behind `n` others, is what the array's come to, and no more elements
 -- than bytes were passed. The measure is what is left of the line. Assumes nothing.
-use mathlib.Core.Path.{◌≡◌, sym, ap, ◌∙◌}
+use mathlib.Core.Path.{sym, ap, ◌∙◌}
 use mathlib.Core.Bool.{true, false, cond}
-use Prim.Native.Nat.{ℕ, ◌-◌, ◌≤◌, ◌<◌}
+use Prim.Native.Nat.{ℕ, ◌<◌}
 use native.Mathlib.Omega.{arith}
-use lib.ListN.{length}
 use Rattle.json_text.specs.Json.{is_at}
-use Rattle.json_text.specs.Access.{element_count}
 use Rattle.json_text.specs.declared.Found.TheVariants.{Is}
 use Rattle.json_text.proofs.ScanLaws.{at_within, comma_next}
 use Rattle.json_text.proofs.ValueLaws.{elements_from, elements_past, value_forward}
 use Rattle.json_text.proofs.AccessSteps.{counted, count_closed, count_by, count_behind, count_on, count_step}
-use borrow.Author.Rules.{rules}
 use Rattle.json_text.proofs.access.count_elements.Goals as goal
 
 pub returns-then-not-is_at : goal.returns-then-not-is_at
@@ -30,14 +27,13 @@ returns-then-is_at c =
     (ap (λ (p : ℕ). is_at c.args.line.now p 0x5d) (sym c.skip_blanks-first.ensures) ∙ (sym c.is_at-2.ensures ∙ c.if-is_at.true)))
 
 pub loop-i-init : goal.loop-i-init
-loop-i-init c =
-    (
-      omega arith,
-      ap (λ (p : ℕ). cond false (Is 0) (counted 0 (elements_from 7 c.args.line.now p))) c.skip_blanks-first.ensures
-    ∙ sym
-    (count_by c.args.line.now c.args.at (sym c.is_at.ensures ∙ c.if-not-is_at.false)
-    (ap (λ (p : ℕ). is_at c.args.line.now p 0x5d) (sym c.skip_blanks-first.ensures) ∙ (sym c.is_at-2.ensures ∙ c.if-is_at.false))),
-    )
+loop-i-init c = (
+  omega arith,
+  ap (λ (p : ℕ). cond false (Is 0) (counted 0 (elements_from 7 c.args.line.now p))) c.skip_blanks-first.ensures
+      ∙ sym
+      (count_by c.args.line.now c.args.at (sym c.is_at.ensures ∙ c.if-not-is_at.false)
+      (ap (λ (p : ℕ). is_at c.args.line.now p 0x5d) (sym c.skip_blanks-first.ensures) ∙ (sym c.is_at-2.ensures ∙ c.if-is_at.false))),
+)
 
 pub returns-in-Bad : goal.returns-in-Bad
 unfolding count_on
@@ -65,9 +61,11 @@ loop-i-preserved c =
       arith,
       value_forward 7 c.args.line.now c.loop-i.i 0 (sym c.value.ensures ∙ c.in-Next.is),
       comma_next c.args.line.now c.in-Next.c.at 0x5d (sym c.separator.ensures ∙ c.in-Comma.is),
-    ) in
-    (omega arith, ap (count_behind c.args.line.now c.loop-i.n) (sym c.in-Comma.is ∙ c.separator.ensures)
-    ∙ (sym (count_step c.args.line.now c.loop-i.n c.loop-i.i c.loop-i-test.true (sym c.value.ensures ∙ c.in-Next.is)) ∙ c.loop-i.invariant.1))
+    ) in (
+      omega arith,
+      ap (count_behind c.args.line.now c.loop-i.n) (sym c.in-Comma.is ∙ c.separator.ensures)
+          ∙ (sym (count_step c.args.line.now c.loop-i.n c.loop-i.i c.loop-i-test.true (sym c.value.ensures ∙ c.in-Next.is)) ∙ c.loop-i.invariant.1),
+    )
 
 pub returns-in-Neither : goal.returns-in-Neither
 unfolding count_behind count_on

@@ -1,17 +1,14 @@
 -- The loop's invariant: the last of the members from `i` on with the name, behind others of which `found` was the last, is that of the
 -- object. The measure is what is left of the line. Assumes nothing.
 use mathlib.Core.Path.{◌≡◌, sym, ap, ◌∙◌}
-use Prim.Native.Nat.{ℕ, ◌-◌, ◌<◌}
 use native.Mathlib.Omega.{arith}
 use mathlib.Core.Bool.{Bool, true, cond}
-use lib.ListN.{length}
-use Rattle.json_text.specs.Access.{string_is, member_value, member_named}
+use Rattle.json_text.specs.Access.{string_is, member_value}
 use Rattle.json_text.specs.declared.Place.{Place}
 use Rattle.json_text.specs.declared.Step.TheVariants.{Next, Bad}
 use Rattle.json_text.proofs.ScanLaws.{comma_next}
-use Rattle.json_text.proofs.ValueLaws.{members_from, members_past, item_next}
+use Rattle.json_text.proofs.ValueLaws.{members_past, item_next}
 use Rattle.json_text.proofs.AccessSteps.{last_in, named_from, named_by, named_behind, named_on, named_step}
-use borrow.Author.Rules.{rules}
 use Rattle.json_text.proofs.access.member.Goals as goal
 use Rattle.json_text.proofs.access.member.Goals.{then-string_is, else-string_is}
 
@@ -29,8 +26,8 @@ pub returns-in-Bad : goal.returns-in-Bad
 unfolding named_on
 returns-in-Bad c =
     let found_here : c.if-string_is.found ≡ cond (string_is c.args.line.now c.loop-i.i c.args.wanted.now) (member_value c.args.line.now c.loop-i.i) c.loop-i.found = elim c.if-string_is.branch [
-      then-string_is w ↦ w.found-is ∙ (w.member_value-found.ensures ∙ ap (λ (b : Bool). cond b (member_value c.args.line.now c.loop-i.i) c.loop-i.found) (sym (sym c.string_is.ensures ∙ w.if-string_is.true)))
-    | else-string_is w ↦ w.found-is ∙ ap (λ (b : Bool). cond b (member_value c.args.line.now c.loop-i.i) c.loop-i.found) (sym (sym c.string_is.ensures ∙ w.if-string_is.false))
+      | then-string_is w ↦ w.found-is ∙ (w.member_value-found.ensures ∙ ap (λ (b : Bool). cond b (member_value c.args.line.now c.loop-i.i) c.loop-i.found) (sym (sym c.string_is.ensures ∙ w.if-string_is.true)))
+      | else-string_is w ↦ w.found-is ∙ ap (λ (b : Bool). cond b (member_value c.args.line.now c.loop-i.i) c.loop-i.found) (sym (sym c.string_is.ensures ∙ w.if-string_is.false))
     ] in
     ap (λ (f : Place). named_on c.args.wanted.now c.args.line.now f Bad) found_here
     ∙ (sym (named_step c.args.wanted.now c.args.line.now c.loop-i.found c.loop-i.i c.loop-i-test.true (sym c.item.ensures ∙ c.in-Bad.is)) ∙ c.loop-i.invariant)
@@ -39,8 +36,8 @@ pub returns-in-Close : goal.returns-in-Close
 unfolding named_behind named_on
 returns-in-Close c =
     let found_here : c.if-string_is.found ≡ cond (string_is c.args.line.now c.loop-i.i c.args.wanted.now) (member_value c.args.line.now c.loop-i.i) c.loop-i.found = elim c.if-string_is.branch [
-      then-string_is w ↦ w.found-is ∙ (w.member_value-found.ensures ∙ ap (λ (b : Bool). cond b (member_value c.args.line.now c.loop-i.i) c.loop-i.found) (sym (sym c.string_is.ensures ∙ w.if-string_is.true)))
-    | else-string_is w ↦ w.found-is ∙ ap (λ (b : Bool). cond b (member_value c.args.line.now c.loop-i.i) c.loop-i.found) (sym (sym c.string_is.ensures ∙ w.if-string_is.false))
+      | then-string_is w ↦ w.found-is ∙ (w.member_value-found.ensures ∙ ap (λ (b : Bool). cond b (member_value c.args.line.now c.loop-i.i) c.loop-i.found) (sym (sym c.string_is.ensures ∙ w.if-string_is.true)))
+      | else-string_is w ↦ w.found-is ∙ ap (λ (b : Bool). cond b (member_value c.args.line.now c.loop-i.i) c.loop-i.found) (sym (sym c.string_is.ensures ∙ w.if-string_is.false))
     ] in
     ap (named_behind c.args.wanted.now c.args.line.now c.if-string_is.found) (sym c.in-Close.is ∙ c.separator.ensures)
     ∙ (ap (λ (f : Place). named_on c.args.wanted.now c.args.line.now f (Next c.in-Next.c)) found_here
@@ -58,8 +55,8 @@ pub loop-i-preserved : goal.loop-i-preserved
 unfolding named_behind named_on
 loop-i-preserved c =
     let found_here : c.if-string_is.found ≡ cond (string_is c.args.line.now c.loop-i.i c.args.wanted.now) (member_value c.args.line.now c.loop-i.i) c.loop-i.found = elim c.if-string_is.branch [
-      then-string_is w ↦ w.found-is ∙ (w.member_value-found.ensures ∙ ap (λ (b : Bool). cond b (member_value c.args.line.now c.loop-i.i) c.loop-i.found) (sym (sym c.string_is.ensures ∙ w.if-string_is.true)))
-    | else-string_is w ↦ w.found-is ∙ ap (λ (b : Bool). cond b (member_value c.args.line.now c.loop-i.i) c.loop-i.found) (sym (sym c.string_is.ensures ∙ w.if-string_is.false))
+      | then-string_is w ↦ w.found-is ∙ (w.member_value-found.ensures ∙ ap (λ (b : Bool). cond b (member_value c.args.line.now c.loop-i.i) c.loop-i.found) (sym (sym c.string_is.ensures ∙ w.if-string_is.true)))
+      | else-string_is w ↦ w.found-is ∙ ap (λ (b : Bool). cond b (member_value c.args.line.now c.loop-i.i) c.loop-i.found) (sym (sym c.string_is.ensures ∙ w.if-string_is.false))
     ] in
     ap (named_behind c.args.wanted.now c.args.line.now c.if-string_is.found) (sym c.in-Comma.is ∙ c.separator.ensures)
     ∙ (ap (λ (f : Place). named_on c.args.wanted.now c.args.line.now f (Next c.in-Next.c)) found_here
@@ -69,8 +66,8 @@ pub returns-in-Neither : goal.returns-in-Neither
 unfolding named_behind named_on
 returns-in-Neither c =
     let found_here : c.if-string_is.found ≡ cond (string_is c.args.line.now c.loop-i.i c.args.wanted.now) (member_value c.args.line.now c.loop-i.i) c.loop-i.found = elim c.if-string_is.branch [
-      then-string_is w ↦ w.found-is ∙ (w.member_value-found.ensures ∙ ap (λ (b : Bool). cond b (member_value c.args.line.now c.loop-i.i) c.loop-i.found) (sym (sym c.string_is.ensures ∙ w.if-string_is.true)))
-    | else-string_is w ↦ w.found-is ∙ ap (λ (b : Bool). cond b (member_value c.args.line.now c.loop-i.i) c.loop-i.found) (sym (sym c.string_is.ensures ∙ w.if-string_is.false))
+      | then-string_is w ↦ w.found-is ∙ (w.member_value-found.ensures ∙ ap (λ (b : Bool). cond b (member_value c.args.line.now c.loop-i.i) c.loop-i.found) (sym (sym c.string_is.ensures ∙ w.if-string_is.true)))
+      | else-string_is w ↦ w.found-is ∙ ap (λ (b : Bool). cond b (member_value c.args.line.now c.loop-i.i) c.loop-i.found) (sym (sym c.string_is.ensures ∙ w.if-string_is.false))
     ] in
     ap (named_behind c.args.wanted.now c.args.line.now c.if-string_is.found) (sym c.in-Neither.is ∙ c.separator.ensures)
     ∙ (ap (λ (f : Place). named_on c.args.wanted.now c.args.line.now f (Next c.in-Next.c)) found_here

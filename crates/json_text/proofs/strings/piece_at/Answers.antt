@@ -1,9 +1,9 @@
 -- Each return has the tests of `piece_of` that led there. Assumes nothing.
 use native.Mathlib.Omega.{arith}
-use mathlib.Core.Path.{◌≡◌, refl, sym, ap, ◌∙◌}
-use Prim.Native.Nat.{ℕ, ◌+◌, ◌≤◌}
+use mathlib.Core.Path.{refl, sym, ap, ◌∙◌}
+use Prim.Native.Nat.{ℕ}
 use lib.Dec.{eqb, ltb}
-use lib.ListN.{length, drop, drop_of_length-le}
+use lib.ListN.{drop, drop_of_length-le}
 use lib.Seq.{drop-drop}
 use Rattle.json_text.proofs.Utf8Laws.{byte_first, sequence_ascii}
 use Rattle.json_text.proofs.PieceLaws.{piece_by, piece_nothing, raw_none, raw_some}
@@ -11,7 +11,6 @@ use Rattle.json_text.specs.Strings.{quote, backslash, escape, raw_piece, piece_o
 use borrow.Author.Tests.{eq-eqb, ne_eqb, lt-ltb, le-ltb}
 use Rattle.json_text.specs.Utf8.{sequence}
 use Rattle.json_text.specs.declared.Piece.TheVariants.{Raw}
-use borrow.Author.Rules.{rules}
 use Rattle.json_text.proofs.strings.piece_at.Goals as goal
 
 pub returns-then-line-at : goal.returns-then-line-at

@@ -1,6 +1,6 @@
 -- Each arm computes; the last has none of the escapes. Assumes nothing.
 use native.Mathlib.Omega.{arith}
-use mathlib.Core.Path.{◌≡◌, refl, sym, ap, ◌∙◌}
+use mathlib.Core.Path.{◌≡◌}
 use mathlib.Core.Logic.{◌⊎◌, ⊎_elim, inl, inr}
 use Rattle.json_text.specs.Strings.{short_escape}
 use borrow.Author.Rules.{rules}

@@ -3,8 +3,6 @@ use native.Mathlib.Omega.{arith}
 use mathlib.Core.Path.{sym, ◌∙◌}
 use borrow.Author.Tests.{ne_eqb}
 use Rattle.json_text.proofs.Utf8Laws.{second_by}
-use Rattle.json_text.specs.Utf8.{second}
-use borrow.Author.Rules.{rules}
 use Rattle.json_text.proofs.utf8.is_second.Goals as goal
 
 pub returns-in-224 : goal.returns-in-224

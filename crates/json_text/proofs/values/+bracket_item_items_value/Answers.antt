@@ -1,11 +1,10 @@
 -- The answers of the cycle of calls {bracket, item, items, value}: each return has the tests of the definition that led there. Assumes nothing.
-use Rattle.std.proofs.Common.{ℕ, ◌+◌, ◌≡◌, length, sym, ap, ◌∙◌, refl, arith}
-use mathlib.Core.Bool.{true, false, cond}
+use Rattle.std.proofs.Common.{ℕ, ◌+◌, sym, ap, ◌∙◌, refl, arith}
 use Rattle.json_text.specs.Json.{kind_of, value_at, separator_at, is_at, longest}
-use Rattle.json_text.specs.Access.{stepped, bracketed, itemized}
+use Rattle.json_text.specs.Access.{stepped}
 use Rattle.json_text.specs.declared.Step.TheVariants.{Next}
 use Rattle.json_text.proofs.ScanLaws.{byte_here, comma_next}
-use Rattle.json_text.proofs.ValueLaws.{step_behind, step_on, inner, value_past, inner_none, inner_some, step_opened, step_as, value_step, itemized_from, step_from, itemized_all, itemized_past, itemized_step, item_next, closing_within, bracket_step, bracket_past, value_on, member_step, element_step}
+use Rattle.json_text.proofs.ValueLaws.{step_behind, step_on, value_past, inner_none, inner_some, step_opened, step_as, value_step, step_from, itemized_all, itemized_past, itemized_step, item_next, closing_within, bracket_step, bracket_past, value_on, member_step, element_step}
 use Rattle.json_text.proofs.values.+bracket_item_items_value.Goals as goal
 
 pub bracket-returns-then-line-at : goal.bracket-returns-then-line-at

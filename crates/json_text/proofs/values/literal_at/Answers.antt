@@ -4,7 +4,6 @@ use native.Mathlib.Omega.{arith}
 use borrow.Author.Rules.{part_to_end}
 use Rattle.json_text.specs.Access.{literal_is, literal_of}
 use Rattle.json_text.proofs.ScanLaws.{word_by, word_past}
-use borrow.Author.Rules.{rules}
 use Rattle.json_text.proofs.values.literal_at.Goals as goal
 
 pub returns-then-line-at : goal.returns-then-line-at

@@ -1,9 +1,6 @@
 -- The loop's invariant: the blanks from `i` on end where those from `at` on do. The measure is what is left of the line. Assumes nothing.
-use Prim.Native.Nat.{◌-◌}
-use native.Mathlib.Omega.{arith}
-use mathlib.Core.Path.{◌≡◌, refl, sym, ◌∙◌}
-use lib.ListN.{length, get_or}
-use Rattle.json_text.specs.Json.{skip_blanks}
+use mathlib.Core.Path.{refl, sym, ◌∙◌}
+use lib.ListN.{get_or}
 use Rattle.json_text.proofs.ScanLaws.{is_blank_lem, no_blank, blanks_past, blanks_onward, blanks_end}
 use borrow.Author.Rules.{rules}
 use Rattle.json_text.proofs.values.skip_blanks.Goals as goal

@@ -2,7 +2,6 @@
 use mathlib.Core.Path.{sym, ap, ◌∙◌}
 use Rattle.json_text.specs.declared.Step.TheVariants.{Next}
 use Rattle.json_text.proofs.StepLaws.{behind_text, text_stepped}
-use borrow.Author.Rules.{rules}
 use Rattle.json_text.proofs.values.string.Goals as goal
 
 pub returns-in-Text : goal.returns-in-Text
