@@ -2,10 +2,8 @@
 -- on the table is as it was. The measure is what is left of `used`. Assumes nothing.
 use Prim.Native.Nat.{◌-◌}
 use mathlib.Core.Path.{sym, ◌∙◌}
-use mathlib.Core.Logic.{⊎_elim}
 use native.Mathlib.Omega.{arith}
-use borrow.Author.Rules.{rules}
-use Rattle.table.proofs.RowLaws.{rows_short, rows_end, Removing, removing_none, removing_marked, removing_moved, removing_end}
+use Rattle.table.proofs.RowLaws.{rows_short, rows_end, removing_none, removing_marked, removing_moved, removing_end}
 use Rattle.table.proofs.remove.Goals as goal
 use Rattle.table.proofs.remove.Goals.{then-is_marked, else-is_marked}
 

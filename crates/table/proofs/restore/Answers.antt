@@ -3,7 +3,6 @@ use Prim.Native.Nat.{◌*◌, ◌≤◌}
 use mathlib.Core.Path.{sym}
 use native.Mathlib.Omega.{arith}
 use native.Mathlib.Nat.{mul-le-mul_right}
-use borrow.Author.Rules.{rules}
 use lib.ListN.{length}
 use Rattle.table.specs.Bytes.{restored}
 use Rattle.table.proofs.ByteLaws.{rows_fit, restored_none, restored_not, restored_before}

@@ -1,14 +1,13 @@
 -- `table::words::before` meets its contract. The loop's invariant: `i` is at most the number of whole words, the rows are
 -- equally long, and the words below `i` are alike. The measure is what is left of the whole words. Assumes nothing.
-use Prim.Native.Nat.{ℕ, ◌-◌, ◌*◌, ◌/◌, ◌≤◌, ◌<◌}
-use mathlib.Core.Path.{◌≡◌, sym, ap, ◌∙◌}
+use Prim.Native.Nat.{◌-◌}
+use mathlib.Core.Path.{sym, ap, ◌∙◌}
 use mathlib.Core.Bool.{true≢false}
 use native.Mathlib.Omega.{arith}
 use borrow.Author.Count.{below_none, below_more}
 use borrow.Author.Rules.{rules}
 use borrow.Author.Tests.{ltb-true}
-use lib.ListN.{length}
-use Rattle.table.specs.Order.{eight, word}
+use Rattle.table.specs.Order.{eight}
 use Rattle.table.proofs.OrderLaws.{word_whole, word_last}
 use Rattle.table.proofs.words.before.Goals as goal
 
