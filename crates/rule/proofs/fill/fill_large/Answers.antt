@@ -18,7 +18,7 @@ slice_bounds-fill_name-end c =
 
 pub returns-in-TooLong : goal.returns-in-TooLong
 returns-in-TooLong c =
-    let whole = absurd (first_fits c.args.template.now c.args.id.now (replicate 8192 0) c.requires.0 c.requires.1 (length-replicate {A = ℕ} 8192 0) c.replace.ensures.value c.in-TooLong.is) in record { value = whole.0; buffer_after = whole.1 }
+    let never : ⊥ = first_fits c.args.template.now c.args.id.now (replicate 8192 0) c.requires.0 c.requires.1 (length-replicate {A = ℕ} 8192 0) c.replace.ensures.value c.in-TooLong.is in record { value = absurd never; buffer_after = absurd never }
 
 pub returns-in-Length : goal.returns-in-Length
 returns-in-Length c =

@@ -34,4 +34,4 @@ overflow_add-result c =
 pub returns-in-All : goal.returns-in-All
 returns-in-All c =
     let found : Plain c.args.line.now c.args.at c.in-At.end = plain_string c.args.line.now c.args.at (sym c.plain_text.ensures ∙ c.in-At.is) in
-        all_users c.args.line.now c.args.allow c.args.at (found) (sym c.word_of.ensures ∙ c.in-All.is)
+    all_users c.args.line.now c.args.allow c.args.at (found) (sym c.word_of.ensures ∙ c.in-All.is)

@@ -22,9 +22,9 @@ loop-n-init c =
 pub returns-in-Close : goal.returns-in-Close
 returns-in-Close c =
     let here : TopicTo c.args.line.now c.loop-n.i c.in-At.end = answered (TopicTo c.args.line.now c.loop-n.i) c.in-At.is c.topic_end.ensures in
-        c.loop-n.invariant.1 _ (last_topic c.args.line.now c.loop-n.i (topics_limit - c.loop-n.n) (omega arith) (here) (sym c.separator.ensures ∙ c.in-Close.is))
+    c.loop-n.invariant.1 _ (last_topic c.args.line.now c.loop-n.i (topics_limit - c.loop-n.n) (omega arith) (here) (sym c.separator.ensures ∙ c.in-Close.is))
 
 pub loop-n-preserved : goal.loop-n-preserved
 loop-n-preserved c =
     let here : TopicTo c.args.line.now c.loop-n.i c.in-At.end = answered (TopicTo c.args.line.now c.loop-n.i) c.in-At.is c.topic_end.ensures in
-        (omega arith, λ end t. c.loop-n.invariant.1 end (next_topic c.args.line.now c.loop-n.i (topics_limit - c.loop-n.n) (omega arith) (here) (sym c.separator.ensures ∙ c.in-Comma.is) t))
+    (omega arith, λ end t. c.loop-n.invariant.1 end (next_topic c.args.line.now c.loop-n.i (topics_limit - c.loop-n.n) (omega arith) (here) (sym c.separator.ensures ∙ c.in-Comma.is) t))

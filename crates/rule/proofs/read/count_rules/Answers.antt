@@ -30,7 +30,7 @@ faulty_line-requires c =
 pub returns-in-Refused : goal.returns-in-Refused
 returns-in-Refused c =
     let line : take (c.line_end-end.result - c.loop-at.at) (drop c.loop-at.at c.args.text.now) ≡ line_at c.args.text.now c.loop-at.at = rw c.line_end-end.ensures (line_part c.args.text.now c.loop-at.at) in
-        c.faulty_line.ensures
+    c.faulty_line.ensures
     ∙ read_faulty _ _ _ c.loop-at.invariant c.loop-at-test.true (line) c.read_rule.ensures c.in-Refused.is
 
 pub overflow_add-at : goal.overflow_add-at
@@ -49,7 +49,7 @@ loop-at-smaller c =
 pub loop-at-preserved : goal.loop-at-preserved
 loop-at-preserved c =
     let line : take (c.line_end-end.result - c.loop-at.at) (drop c.loop-at.at c.args.text.now) ≡ line_at c.args.text.now c.loop-at.at = rw c.line_end-end.ensures (line_part c.args.text.now c.loop-at.at) in
-        read_more _ _ _ _ c.loop-at.invariant c.loop-at-test.true c.if-n-eq-LINES.false c.line_end-end.ensures (line) c.read_rule.ensures c.in-Rule.is
+    read_more _ _ _ _ c.loop-at.invariant c.loop-at-test.true c.if-n-eq-LINES.false c.line_end-end.ensures (line) c.read_rule.ensures c.in-Rule.is
 
 pub returns : goal.returns
 returns c =

@@ -24,7 +24,7 @@ returns-in-Bad c =
 pub loop-turns-preserved : goal.loop-turns-preserved
 loop-turns-preserved c =
     ap (topics_from (c.loop-turns.turns - 1) c.args.line.now) c.next_item-next.ensures
-    ∙ (sym (topics_next c.loop-turns.turns c.args.line.now _ c.loop-turns-test.true (ap is_topic (sym c.topic_at.ensures) ∙ good_topic c.topic_at.result c.in_default.keys2))
+    ∙ (sym (topics_next c.loop-turns.turns c.args.line.now _ c.loop-turns-test.true (ap is_topic (sym c.topic_at.ensures) ∙ good_topic c.topic_at.result c.in_default.not-Bad))
     ∙ (ap (topics_from c.loop-turns.turns c.args.line.now) (sym c.in-At.is) ∙ c.loop-turns.invariant))
 
 pub returns : goal.returns
