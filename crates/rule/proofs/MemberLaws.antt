@@ -2,7 +2,7 @@
 use Prim.Native.Nat.{ℕ, ◌+◌, ◌%◌}
 use native.Mathlib.Omega.{arith}
 use mathlib.Core.Path.{◌≡◌, refl, sym, ap, subst, ◌∙◌}
-use mathlib.Core.Bool.{Bool, true, false, not, cond}
+use mathlib.Core.Bool.{Bool, true, false, cond}
 use mathlib.Core.List.{List, map}
 use mathlib.Core.Option
 use mathlib.Core.Option.{Option, none, some, bind}
@@ -34,9 +34,8 @@ use Rattle.rule.specs.Members.{text_from, number_from, truth_from, password_from
 use Rattle.rule.specs.declared.MemberPlaces.{MemberPlaces}
 use Rattle.rule.specs.declared.Word.{Word}
 use Rattle.rule.specs.declared.Word.TheVariants.{Allow, Deny, All as WordAll, Connect as WordConnect, Publish as WordPublish, Subscribe as WordSubscribe, Pubsub as WordPubsub, Other as OtherWord}
-use Rattle.rule.specs.declared.User.TheVariants.{Anyone, Named}
+use Rattle.rule.specs.declared.User.TheVariants.{Anyone}
 use Rattle.rule.specs.declared.UserRead.{UserRead}
-use Rattle.rule.specs.declared.UserRead.TheVariants.{User as UserIs, Bad as BadUser}
 use Rattle.rule.specs.declared.PasswordRead.{PasswordRead}
 use Rattle.rule.specs.declared.PasswordRead.TheVariants.{Password, Bad as BadPassword}
 use Rattle.rule.specs.declared.Protocol.{Protocol}

@@ -3,7 +3,7 @@ use Prim.Native.Nat.{ℕ, zero, suc, ◌+◌, ◌-◌, ◌≤◌, ◌<◌}
 use native.Mathlib.Omega.{arith}
 use mathlib.Core.Path.{◌≡◌, refl, sym, ap, subst, ◌∙◌}
 use mathlib.Core.Bool.{Bool, true, false, ◌&&◌, ◌||◌, cond}
-use mathlib.Core.List.{List, [], ◌∷◌}
+use mathlib.Core.List.{List}
 use mathlib.Core.Option.{Option, none, some, bind, map}
 use lib.Dec.{eqb, ltb, leb}
 use native.Mathlib.Numerals.{add-one}
@@ -16,7 +16,7 @@ use Rattle.text.proofs.Laws.{written-take, isnt}
 use Rattle.topic.specs.Topic.{valid_filter}
 use Rattle.json_text.specs.Utf8.{byte_at, between}
 use Rattle.json_text.specs.Strings.{Decoded, string_at}
-use Rattle.json_text.specs.Json.{text, array, object, Members, is_at, kind_of}
+use Rattle.json_text.specs.Json.{object, Members, is_at, kind_of}
 use Rattle.json_text.specs.Access.{kind_at, first_item, next_item, copied, decoded_into}
 use Rattle.json_text.specs.declared.Kind.TheVariants.{Text, Array, Object}
 use Rattle.json_text.specs.declared.Copied.{Copied}

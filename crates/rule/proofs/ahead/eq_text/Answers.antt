@@ -4,7 +4,6 @@ use mathlib.Core.Path.{sym, ◌∙◌}
 use Rattle.json_text.proofs.ScanLaws.{at_within}
 use Rattle.rule.proofs.MemberLaws.{object_opens, no_object}
 use Rattle.rule.proofs.OnePassLaws.{eq_unopened, eq_named_lem}
-use borrow.Author.Rules.{rules}
 use Rattle.rule.proofs.ahead.eq_text.Goals as goal
 
 pub overflow_add-at : goal.overflow_add-at

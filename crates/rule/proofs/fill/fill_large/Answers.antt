@@ -3,7 +3,6 @@ use mathlib.Core.Path.{sym}
 use Prim.Native.Nat.{ℕ}
 use lib.ListN.{replicate, length-replicate}
 use lib.Seq.{length-take-le}
-use borrow.Author.Rules.{rules}
 use Rattle.rule.specs.Places.{given}
 use Rattle.rule.proofs.FillLaws.{first_fits, first_room, first_front, filled_by}
 use Rattle.rule.proofs.fill.fill_large.Goals as goal

@@ -2,7 +2,6 @@
 use mathlib.Core.Path.{sym, ap, ◌∙◌}
 use Rattle.rule.proofs.MemberLaws.{not_text}
 use Rattle.rule.specs.Places.{is_text_at, is_text_kind}
-use borrow.Author.Rules.{rules}
 use Rattle.rule.proofs.listed.is_text.Goals as goal
 
 pub returns-in-Text : goal.returns-in-Text

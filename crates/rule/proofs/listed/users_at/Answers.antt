@@ -2,8 +2,6 @@
 use mathlib.Core.Path.{sym, ap, ◌∙◌}
 use Rattle.rule.proofs.MemberLaws.{word_users, not_all, users_word, users_object, users_other}
 use Rattle.rule.specs.Places.{users_answer}
-use Rattle.rule.specs.declared.Word.TheVariants.{All}
-use borrow.Author.Rules.{rules}
 use Rattle.rule.proofs.listed.users_at.Goals as goal
 
 pub returns-in-All : goal.returns-in-All

@@ -4,7 +4,6 @@ use mathlib.Core.Path.{sym, ◌∙◌}
 use Rattle.json_text.proofs.ScanLaws.{at_within}
 use Rattle.rule.proofs.MemberLaws.{array_opens, no_array}
 use Rattle.rule.proofs.FrontLaws.{access_unopened, access_word_at}
-use borrow.Author.Rules.{rules}
 use Rattle.rule.proofs.one_pass.access_end.Goals as goal
 
 pub overflow_add-first : goal.overflow_add-first

@@ -4,7 +4,6 @@ use mathlib.Core.Path.{sym, ap, ◌∙◌}
 use Rattle.json_text.proofs.PlainLaws.{Plain, plain_string}
 use Rattle.rule.specs.Places.{control_of_word}
 use Rattle.rule.proofs.OnePassLaws.{rule_map, control_last, control_more}
-use borrow.Author.Rules.{rules}
 use Rattle.rule.proofs.one_pass.from_control.Goals as goal
 
 pub overflow_add-at : goal.overflow_add-at

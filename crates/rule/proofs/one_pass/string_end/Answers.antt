@@ -3,7 +3,6 @@ use native.Mathlib.Omega.{arith}
 use mathlib.Core.Path.{sym, ◌∙◌}
 use Rattle.json_text.proofs.PlainLaws.{Plain, plain_string}
 use Rattle.rule.proofs.OnePassLaws.{plain_topic}
-use borrow.Author.Rules.{rules}
 use Rattle.rule.proofs.one_pass.string_end.Goals as goal
 
 pub overflow_add-at : goal.overflow_add-at

@@ -4,7 +4,6 @@ use Rattle.rule.specs.Places.{is_topic}
 use Rattle.rule.specs.OnePass.{PartTo}
 use Rattle.rule.proofs.TopicLaws.{good_topic}
 use Rattle.rule.proofs.OnePassLaws.{answered, value_topic}
-use borrow.Author.Rules.{rules}
 use Rattle.rule.proofs.one_pass.topic_passed.Goals as goal
 
 pub returns : goal.returns

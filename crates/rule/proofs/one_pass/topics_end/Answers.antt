@@ -1,14 +1,13 @@
 -- The loop's invariant: if topics, no more than may still come, stand from `i` on up to a place, then all topics do. The measure is how many
 -- may still come. Assumes nothing.
-use Prim.Native.Nat.{ℕ, ◌+◌, ◌-◌, ◌≤◌}
+use Prim.Native.Nat.{◌-◌}
 use native.Mathlib.Omega.{arith}
 use mathlib.Core.Path.{sym, ◌∙◌}
 use Rattle.json_text.proofs.ScanLaws.{at_within}
 use Rattle.rule.specs.Limits.{topics_limit}
-use Rattle.rule.specs.OnePass.{TopicTo, TopicsTo}
+use Rattle.rule.specs.OnePass.{TopicTo}
 use Rattle.rule.proofs.MemberLaws.{array_opens}
-use Rattle.rule.proofs.OnePassLaws.{answered, TopicsFrom, last_topic, next_topic, topics_read}
-use borrow.Author.Rules.{rules}
+use Rattle.rule.proofs.OnePassLaws.{answered, last_topic, next_topic, topics_read}
 use Rattle.rule.proofs.one_pass.topics_end.Goals as goal
 
 pub overflow_add-at : goal.overflow_add-at

@@ -4,7 +4,6 @@ use Rattle.rule.specs.Members.{MembersTo, UsersTo}
 use Rattle.rule.specs.Front.{users_before}
 use Rattle.rule.proofs.OnePassLaws.{members_answered, users_answered}
 use Rattle.rule.proofs.FrontLaws.{users_members, users_from, users_neither}
-use borrow.Author.Rules.{rules}
 use Rattle.rule.proofs.one_pass.users_end.Goals as goal
 
 pub returns-in-Users : goal.returns-in-Users

@@ -4,10 +4,9 @@ use Prim.Native.Nat.{◌-◌, ◌≤◌}
 use mathlib.Core.Path.{◌≡◌, refl, ◌∙◌}
 use native.Mathlib.Omega.{arith}
 use lib.ListN.{length, take, drop}
-use borrow.Author.Rules.{rules}
 use Rattle.json_text.specs.Lines.{line_at}
 use Rattle.json_text.proofs.LineLaws.{line_within, line_part}
-use Rattle.rule.proofs.ReadLaws.{Passed, read_more, read_over, read_faulty, read_all}
+use Rattle.rule.proofs.ReadLaws.{read_more, read_over, read_faulty, read_all}
 use Rattle.rule.proofs.read.count_rules.Goals as goal
 
 pub loop-at-init : goal.loop-at-init

@@ -4,7 +4,6 @@ use mathlib.Core.Path.{◌≡◌, ap, ◌∙◌}
 use native.Mathlib.Omega.{arith}
 use lib.ListN.{length, drop, length-drop}
 use lib.Seq.{take_all}
-use borrow.Author.Rules.{rules}
 use Rattle.json_text.specs.Lines.{count_up_to}
 use Rattle.rule.specs.Limits.{lines_limit}
 use Rattle.rule.proofs.ReadLaws.{faulty_over, faulty_here}

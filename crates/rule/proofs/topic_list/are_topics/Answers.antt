@@ -1,9 +1,8 @@
 -- The loop's invariant: what the elements left come to is what all come to. The measure is the turns that are left. Assumes nothing.
-use mathlib.Core.Path.{◌≡◌, refl, sym, ap, ◌∙◌}
+use mathlib.Core.Path.{refl, sym, ap, ◌∙◌}
 use Prim.Native.Nat.{◌-◌}
 use Rattle.rule.proofs.TopicLaws.{good_topic, topics_end, topics_none, topics_next}
 use Rattle.rule.specs.Places.{is_topic, are_topics, topics_from}
-use borrow.Author.Rules.{rules}
 use Rattle.rule.proofs.topic_list.are_topics.Goals as goal
 
 pub loop-turns-init : goal.loop-turns-init

@@ -3,7 +3,6 @@ use native.Mathlib.Omega.{arith}
 use mathlib.Core.Path.{sym, ◌∙◌}
 use Rattle.json_text.proofs.PlainLaws.{Plain, plain_string}
 use Rattle.rule.proofs.TopicLaws.{plain-told, plain_eq_over, eq_by}
-use borrow.Author.Rules.{rules}
 use Rattle.rule.proofs.topic_list.eq_topic.Goals as goal
 
 pub overflow_add-at : goal.overflow_add-at

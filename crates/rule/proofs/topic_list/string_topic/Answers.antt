@@ -3,7 +3,6 @@ use native.Mathlib.Omega.{arith}
 use mathlib.Core.Path.{refl, sym, ◌∙◌}
 use Rattle.json_text.proofs.PlainLaws.{Plain, plain_string}
 use Rattle.rule.proofs.TopicLaws.{plain-told, plain_string_over, string_by}
-use borrow.Author.Rules.{rules}
 use Rattle.rule.proofs.topic_list.string_topic.Goals as goal
 
 pub overflow_add-at : goal.overflow_add-at

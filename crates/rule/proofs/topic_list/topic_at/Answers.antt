@@ -1,7 +1,6 @@
 -- Each return has the kind of the value, and of an object its member. Assumes nothing.
 use mathlib.Core.Path.{sym, ◌∙◌}
 use Rattle.rule.proofs.TopicLaws.{topic_string, topic_eq, topic_no_eq, topic_other}
-use borrow.Author.Rules.{rules}
 use Rattle.rule.proofs.topic_list.topic_at.Goals as goal
 
 pub returns-in-Text : goal.returns-in-Text

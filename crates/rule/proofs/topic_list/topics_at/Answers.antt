@@ -2,7 +2,6 @@
 use mathlib.Core.Path.{sym, ap, ◌∙◌}
 use Rattle.rule.proofs.TopicLaws.{topics_array, topics_other}
 use Rattle.rule.specs.Places.{are_topics}
-use borrow.Author.Rules.{rules}
 use Rattle.rule.proofs.topic_list.topics_at.Goals as goal
 
 pub returns-in-Array : goal.returns-in-Array
