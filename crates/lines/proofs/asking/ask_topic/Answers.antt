@@ -40,7 +40,7 @@ returns c es is at =
     let asked : (es : Elements)
     → line_value c.args.line.now ≡ some (array es)
     → c.args.f ≡ fields_here c.args.line.now
-    → Asks es c.in-Asker.a c.asker_at.new.1.1.0 c.asker_at.new.1.1.1.0 c.asker_at.new.1.1.1.1.0 c.asker_at.new.1.1.1.1.1.0 = λ es is at. asker_told c.args.line.now es is c.args.f at zeros c.requires c.asker_at.ensures.value c.asker_at.ensures.ids_after c.asker_at.ensures.names_after
+    → Asks es c.in-Asker.a c.asker_at.new.ids c.asker_at.new.names c.asker_at.new.passwords c.asker_at.new.addresses = λ es is at. asker_told c.args.line.now es is c.args.f at zeros c.requires c.asker_at.ensures.value c.asker_at.ensures.ids_after c.asker_at.ensures.names_after
     c.asker_at.ensures.passwords_after c.asker_at.ensures.addresses_after c.in-Asker.is in
     c.topic_said.ensures
     ∙ topic_asks c.args.publishing es c.args.store.now (sym (ninth_is c.args.line.now es is c.args.f at) ∙ c.in-Nowhere.is)

@@ -33,5 +33,5 @@ slice_bounds-connected-end c =
 
 pub returns : goal.returns
 returns c =
-    let whole = event_call c.args.line.now c.args.store.now c.args.f connected_in (event.connected c.in-Is.session (take (c.in-Length.id - 0) c.text_at.new.1.1.0) (given c.in-Is-given_at.name c.given_at.new.1.1.0)) c.event_said.ensures c.connected.ensures.result_value c.connected.ensures.store_after
+    let whole = event_call c.args.line.now c.args.store.now c.args.f connected_in (event.connected c.in-Is.session (take (c.in-Length.id - 0) c.text_at.new.buffer) (given c.in-Is-given_at.name c.given_at.new.buffer)) c.event_said.ensures c.connected.ensures.result_value c.connected.ensures.store_after
     (λ es e q. connected_is c.args.line.now c.args.f es e q zeros (roomy c.args.line.now c.requires) c.in-Nowhere.is (sym c.number_at.ensures ∙ c.in-Is.is) (sym c.text_at.ensures.value ∙ c.in-Length.is) c.text_at.ensures.buffer_after (sym c.given_at.ensures.value ∙ c.in-Is-given_at.is) c.given_at.ensures.buffer_after) in record { value = whole.0; store_after = whole.1 }

@@ -28,5 +28,5 @@ slice_bounds-disconnected-end c =
 
 pub returns : goal.returns
 returns c =
-    let whole = event_call c.args.line.now c.args.store.now c.args.f disconnected_in (event.disconnected c.in-Is.session (take (c.in-Length.id - 0) c.text_at.new.1.1.0)) c.event_said.ensures c.disconnected.ensures.result_value c.disconnected.ensures.store_after
+    let whole = event_call c.args.line.now c.args.store.now c.args.f disconnected_in (event.disconnected c.in-Is.session (take (c.in-Length.id - 0) c.text_at.new.buffer)) c.event_said.ensures c.disconnected.ensures.result_value c.disconnected.ensures.store_after
     (λ es e q. disconnected_is c.args.line.now c.args.f es e q zeros (roomy c.args.line.now c.requires) c.in-Nowhere.is (sym c.number_at.ensures ∙ c.in-Is.is) (sym c.text_at.ensures.value ∙ c.in-Length.is) c.text_at.ensures.buffer_after) in record { value = whole.0; store_after = whole.1 }
