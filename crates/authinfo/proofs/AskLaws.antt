@@ -6,9 +6,6 @@ use mathlib.Core.Path.{◌≡◌, refl, sym, ap, ◌∙◌}
 use mathlib.Core.Bool.{Bool, true, false, ◌||◌, ◌&&◌, cond}
 use mathlib.Core.List.{List, [], ◌∷◌}
 use mathlib.Core.Option.{Option, none, some}
-use mathlib.Core.Logic.{⊎_elim}
-use types.Run.{OneOf}
-use denote.Enum.Declared.{tag_of}
 use lib.Dec.{ltb}
 use lib.ListN.{length, take, drop, length-take}
 use borrow.Author.Tests.{lt-ltb, le-ltb, ltb-true, ltb-false}
@@ -35,7 +32,6 @@ use Rattle.authinfo.specs.declared.LineRead.{LineRead}
 use Rattle.authinfo.specs.declared.LineRead.TheVariants.{Says, Refused}
 use Rattle.authinfo.specs.declared.FirstHit.{FirstHit}
 use Rattle.authinfo.specs.declared.FirstHit.TheVariants.{Rule, NoRule, Faulty}
-use Rattle.authinfo.specs.contracts.FirstHit.{the_type}
 
 -- ---- a name over its limit
 
@@ -60,10 +56,10 @@ length_over {n = n} names e h = rw e (at (ltb id_limit (length names)) refl)
 -- ---- the first hit, line by line
 
 -- of those that have seen a rule or a fault, none looks further
-pub seen_first : (found : FirstHit) (v : Verdict) (n : ℕ) → OneOf (0 ∷ 2 ∷ []) (tag_of the_type found) → found ≡ or_hit found v n
+pub seen_first : (found : FirstHit) (v : Verdict) (n : ℕ) → (found ≡ NoRule → ⊥) → found ≡ or_hit found v n
 unfolding or_hit
 seen_first (Rule k allow) v n h = refl
-seen_first NoRule v n h = absurd (⊎_elim (λ e. omega arith) (λ e. omega arith) h)
+seen_first NoRule v n h = absurd (h refl)
 seen_first (Faulty cause line) v n h = refl
 
 module _ (q : Question) (id : List ℕ) (name : Option (List ℕ)) where
@@ -194,11 +190,11 @@ deciding_by c rules a topic long many wrong found =
     ∙ (λ i. unless_fault (fault_by (long i) (many i) (wrong i)) (for_client c.superuser (sym found i)))
 
 -- a superuser, with no faulty line
-pub superuser_allowed : (found : FirstHit) {superuser : Bool} → OneOf (0 ∷ 1 ∷ []) (tag_of the_type found) → superuser ≡ true → for_client superuser found ≡ Rule 0 true
+pub superuser_allowed : (found : FirstHit) {superuser : Bool} → ((cause : Refusal) (line : ℕ) → found ≡ Faulty cause line → ⊥) → superuser ≡ true → for_client superuser found ≡ Rule 0 true
 unfolding for_client
 superuser_allowed (Rule n allow) h e = rw e
 superuser_allowed NoRule h e = rw e
-superuser_allowed (Faulty cause line) h e = absurd (⊎_elim (λ e. omega arith) (λ e. omega arith) h)
+superuser_allowed (Faulty cause line) h e = absurd (h cause line refl)
 
 pub others_decided : (found : FirstHit) {superuser : Bool} → superuser ≡ false → for_client superuser found ≡ found
 unfolding for_client

@@ -6,11 +6,8 @@ use mathlib.Core.Path.{◌≡◌, refl, sym, ap, subst, ◌∙◌}
 use mathlib.Core.Bool.{Bool, true, false, ◌&&◌, ◌||◌, not, cond}
 use mathlib.Core.List.{List, [], ◌∷◌}
 use mathlib.Core.Option.{Option, none, some, bind, map}
-use lib.Dec.{T, eqb, leb}
+use lib.Dec.{eqb, leb}
 use lib.ListN.{length}
-use denote.Enum.Declared.{tag_of}
-use types.Run.{OneOf, miss}
-use mir.Val.{has_key}
 use borrow.Author.Tests.{lt-ltb, le-ltb}
 use Rattle.text.specs.Ascii.{ascii}
 use Rattle.json_text.specs.Json.{Json, null, bool, number, text, array, object, Elements, no_element, element, Members, skip_blanks, depth_limit, line_value, longest, longestMember}
@@ -52,7 +49,6 @@ use Rattle.authinfo.specs.declared.QosRead.{QosRead}
 use Rattle.authinfo.specs.declared.QosRead.TheVariants.{Takes as QosTakes, Bad as BadQos}
 use Rattle.authinfo.specs.declared.TopicRead.{TopicRead}
 use Rattle.authinfo.specs.declared.LineRead.TheVariants.{Says, Refused}
-use Rattle.authinfo.specs.contracts.Action as the-action
 use Rattle.authinfo.proofs.MemberLaws.{Stands, member_stands, permission_answer, action_answer, permission_stands, action_stands, retain_stands, topic_stands, short_stands}
 
 -- ---- words
@@ -72,10 +68,6 @@ action_by line h e f g =
     ∙ λ i. cond (e i) (ActionIs action.All) (cond (f i) (ActionIs action.Publish) (cond (g i) (ActionIs action.Subscribe) BadAction))
 
 -- ---- the action and the retain
-
--- an action that is one of an arm's is no action that the arm has not
-pub other_action : (ks : List ℕ) (a b : Action) → OneOf ks (tag_of the-action.the_type a) → T (not (has_key ks (tag_of the-action.the_type b))) → a ≡ b → ⊥
-other_action ks a b h n e = miss ks (tag_of the-action.the_type b) n (subst (λ (x : Action). OneOf ks (tag_of the-action.the_type x)) e h)
 
 pub kind_by : {allow allows : Bool} {act acts : Action} {retain retains : Truth} {q asks : Asked} → allow ≡ allows → act ≡ acts → retain ≡ retains → q ≡ asks
     → takes_kind allow act retain q ≡ takes_kind allows acts retains asks
@@ -200,13 +192,6 @@ rule_by line m a id name topic e f g h = parts_by line (parts_at line m) a id na
 pub qos_asked_lem : (line : List ℕ) {q : ℕ} (a : Asked) (place : Place) {r s : QosRead} → q ≡ qos_of_asked a → r ≡ qos_here line q place → r ≡ s
     → qos_here line (qos_of_asked a) place ≡ s
 qos_asked_lem line a place e f g = ap (λ (q : ℕ). qos_here line q place) (sym e) ∙ (sym f ∙ g)
-
--- what `&&` gives, by its first operand
-pub and-true : (b : Bool) {a c : Bool} → a ≡ true → c ≡ b → c ≡ (a && b)
-and-true b e q = q ∙ sym (ap (λ (x : Bool). x && b) e)
-
-pub and-false : (b : Bool) {a c : Bool} → a ≡ false → c ≡ a → c ≡ (a && b)
-and-false b e q = q ∙ (e ∙ sym (ap (λ (x : Bool). x && b) e))
 
 -- ---- the QoS of the tree
 

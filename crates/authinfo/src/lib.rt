@@ -2,6 +2,7 @@
 // members by `one_pass` where their names are plain, else by `members`; `words` has its two words, `filling` fills its topic. `times` compares
 // times.
 #![tactic(auto)]
+
 pub mod ask;
 mod filling;
 mod members;

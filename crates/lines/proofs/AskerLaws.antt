@@ -5,8 +5,6 @@ use mathlib.Core.Path.{◌≡◌, refl, sym, ap, ◌∙◌}
 use mathlib.Core.List.{List, [], ◌∷◌}
 use mathlib.Core.Option.{Option, none, some, bind, map, none-ne-some}
 use lib.ListN.{length, take}
-use denote.Enum.Declared.{tag_of}
-use types.Run.{OneOf, miss}
 use Rattle.json_text.specs.Json.{array, Elements, line_value}
 use Rattle.json_text.specs.Access.{copied, decoded_into}
 use Rattle.json_text.specs.declared.Place.{Place}
@@ -35,15 +33,15 @@ use Rattle.lines.specs.declared.AskerRead.{AskerRead}
 use Rattle.lines.specs.declared.AskerRead.TheVariants.{Asker as AskerIs, Bad as BadAsker}
 use Rattle.reader.specs.Reader.{fields_here}
 use Rattle.lines.specs.Reading.{string_from, earlier_from, given_from, protocol_from, with_protocol, with_texts, with_id, asker_here}
-use Rattle.lines.proofs.ElementLaws.{no_length, from_front, element_stands, fields_are, text_told, text_bad, given_told, given_bad, earlier_told, earlier_bad, protocol_told, protocol_bad}
+use Rattle.lines.proofs.ElementLaws.{from_front, element_stands, fields_are, text_told, text_bad, given_told, given_bad, earlier_told, earlier_bad, protocol_told, protocol_bad}
 
 -- ---- what was read, put together
 
 -- no id
-pub no_id : (earlier : ℕ) (id : Copied) (name password address : GivenRead) (p : ProtocolRead) → OneOf (1 ∷ 2 ∷ []) (tag_of copied-type.the_type id)
+pub no_id : (earlier : ℕ) (id : Copied) (name password address : GivenRead) (p : ProtocolRead) → ((n : ℕ) → id ≡ Length n → ⊥)
     → BadAsker ≡ with_id (Is earlier) id name password address p
 unfolding with_id
-no_id earlier (Length n) name password address p h = absurd (miss (1 ∷ 2 ∷ []) 0 tt h)
+no_id earlier (Length n) name password address p h = absurd (h n refl)
 no_id earlier TooLong name password address p h = refl
 no_id earlier NoText name password address p h = refl
 
@@ -254,10 +252,10 @@ module _ (line : List ℕ) (es : Elements) (is : line_value line ≡ some (array
       → after ≡ decoded_into before (string_from line f.eighth) → answer ≡ Length n → bind (nth 7 es) as_string ≡ some (take (n - 0) after)
   topic_told c d q = text_part_lem 7 (λ f. f.eighth) (place (λ f. f.eighth)) d (sym c ∙ q)
 
-  pub topic_wrong : {answer : Copied} → answer ≡ copied (length before) (string_from line f.eighth) → OneOf (1 ∷ 2 ∷ []) (tag_of copied-type.the_type answer)
+  pub topic_wrong : {answer : Copied} → answer ≡ copied (length before) (string_from line f.eighth) → ((n : ℕ) → answer ≡ Length n → ⊥)
       → bind (nth 7 es) as_string ≡ none
   topic_wrong {answer} c h =
-      text_bad line (nth 7 es) (stands 7) before room (c ∙ place (λ f. copied (length before) (string_from line f.eighth))) (no_length answer h)
+      text_bad line (nth 7 es) (stands 7) before room (c ∙ place (λ f. copied (length before) (string_from line f.eighth))) h
 
 -- his id is within its buffer
 pub id_within : (line : List ℕ) (f : Fields) (before : List ℕ) {answer : AskerRead} {ids : List ℕ} {a : Asker}

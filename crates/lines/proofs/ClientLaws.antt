@@ -7,8 +7,6 @@ use mathlib.Core.List.{List, [], ◌∷◌}
 use mathlib.Core.Option.{Option, none, some, bind, map}
 use lib.Dec.{ltb, eqb}
 use lib.ListN.{length, take}
-use types.Run.{OneOf, miss}
-use denote.Enum.Declared.{tag_of}
 use borrow.Author.Tests.{lt-ltb, le-ltb, ltb-false, eqb-true}
 use Rattle.text.specs.Ascii.{ascii}
 use Rattle.text.specs.Text.{same}
@@ -267,23 +265,23 @@ pub question_is : (line : List ℕ) (es : Elements) → line_value line ≡ some
 unfolding question_in
 question_is line es is q = question_form es (bind (nth 0 es) as_string) ∙ ap (λ (f : Form). question_as f es) (sym (q ∙ form_is line es is))
 
--- neither form: the others, in their declared order
-pub other_form : (es : Elements) (form : Form) → OneOf (0 ∷ 3 ∷ 4 ∷ 5 ∷ 6 ∷ []) (tag_of form_type_lem.the_type form) → question_as form es ≡ none
+-- neither form
+pub other_form : (es : Elements) (form : Form) → (form ≡ Subscribe → ⊥) → (form ≡ Publish → ⊥) → question_as form es ≡ none
 unfolding question_as
-other_form es Connect h = refl
-other_form es Subscribe h = absurd (miss (0 ∷ 3 ∷ 4 ∷ 5 ∷ 6 ∷ []) 1 tt h)
-other_form es Publish h = absurd (miss (0 ∷ 3 ∷ 4 ∷ 5 ∷ 6 ∷ []) 2 tt h)
-other_form es Connected h = refl
-other_form es Disconnected h = refl
-other_form es Ended h = refl
-other_form es Unknown h = refl
+other_form es Connect h k = refl
+other_form es Subscribe h k = absurd (h refl)
+other_form es Publish h k = absurd (k refl)
+other_form es Connected h k = refl
+other_form es Disconnected h k = refl
+other_form es Ended h k = refl
+other_form es Unknown h k = refl
 
 -- ---- the client, by what is read
 
 -- no id
-pub no_id : (superuser : Bool) (id : Copied) (name : GivenRead) → OneOf (1 ∷ 2 ∷ []) (tag_of copied-type.the_type id) → BadHeader ≡ with_truth (Holds superuser) id name
+pub no_id : (superuser : Bool) (id : Copied) (name : GivenRead) → ((n : ℕ) → id ≡ Length n → ⊥) → BadHeader ≡ with_truth (Holds superuser) id name
 unfolding with_truth
-no_id superuser (Length n) name h = absurd (miss (1 ∷ 2 ∷ []) 0 tt h)
+no_id superuser (Length n) name h = absurd (h n refl)
 no_id superuser TooLong name h = refl
 no_id superuser NoText name h = refl
 

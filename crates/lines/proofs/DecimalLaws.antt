@@ -1,4 +1,4 @@
--- Laws of a number in decimal (`specs/Output.antt`): it is what `io::decimal` spells, has at most 20 digits, and is read back as a JSON number.
+-- Laws of a number in decimal (`specs/Output.antt`): it is std's, which `itoa` writes, has at most 20 digits, and is read back as a JSON number.
 -- Assumes nothing.
 use Prim.Native.Nat.{ℕ, zero, suc, ◌+◌, ◌-◌, ◌*◌, ◌/◌, ◌%◌, ◌^◌, ◌≤◌, ◌<◌}
 use native.Mathlib.Nat.{pow-suc, pow-le-pow_right, mod-lt, mod-eq_of_lt, div-add-mod', one-le-pow}
@@ -9,17 +9,16 @@ use mathlib.Core.Bool.{Bool, true, false, ◌&&◌, ◌||◌, not, cond, or-true
 use mathlib.Core.List.{List, [], ◌∷◌, ◌++◌, append_assoc}
 use mathlib.Core.Option.{some}
 use lib.Dec.{eqb, ltb, leb}
-use lib.ListN.{length, get_or, length-append}
+use lib.ListN.{length, get_or, take, length-append}
+use lib.Seq.{take_at}
 use borrow.Author.Tests.{ltb-true, ltb-false, lt-ltb, le-ltb, leb-true, leb-false, le-leb, eqb-true, eqb-false, eq-eqb, ne_eqb}
-use Rattle.io.specs.Digits.{last_digits, hex_digit_ascii, IsDigitCount}
+use Rattle.std.specs.Fmt as std
+use Rattle.std.proofs.lemmas.Fmt.{decimal_digit, decimal_step}
 use Rattle.json_text.proofs.Utf8Laws.{within}
 use Rattle.json_text.specs.Json as json
 use Rattle.lines.specs.Output.{decimal_up_to, decimal}
 
 -- ---- a number in decimal
-
-glyph_digit : (d : ℕ) → d < 10 → hex_digit_ascii d ≡ 48 + d
-glyph_digit d h = rw (lt-ltb d 10 h)
 
 -- one digit, and one more
 up_to_one : (most n : ℕ) → n < 10 → decimal_up_to (suc most) n ≡ (48 + n) ∷ []
@@ -30,40 +29,31 @@ up_to_more : (most n : ℕ) → 10 ≤ n → decimal_up_to (suc most) n ≡ deci
 unfolding decimal_up_to
 up_to_more most n h = rw (le-ltb n 10 h)
 
--- the fewest digits that hold a number are its decimal
-pub decimal_digits : (r most n : ℕ) → IsDigitCount 10 1 n r → r ≤ most → last_digits 10 r n ≡ decimal_up_to most n
-decimal_digits zero most n f h = absurd (omega arith)
-decimal_digits (suc r) zero n f h = absurd (omega arith)
-decimal_digits (suc zero) (suc most) n f h =
-    let small : n < 10 = f.1 in
-    ap (λ (d : ℕ). hex_digit_ascii d ∷ []) (mod-eq_of_lt small) ∙ (ap (λ (d : ℕ). d ∷ []) (glyph_digit n small) ∙ sym (up_to_one most n small))
-decimal_digits (suc (suc r)) (suc most) n f h =
-    let low : 10 ^ suc r ≤ n = rw (sub-one (suc (suc r))) at (f.2 (omega arith)) in
-    let high : n < 10 ^ suc (suc r) = f.1 in
-    let rest = decimal_digits (suc r) most (n / 10)
-    (omega arith, omega (arith, high, pow-suc 10 (suc r)), λ k. rw (sub-one (suc r)) (omega (arith, low, pow-suc 10 r))) (omega arith) in
-    let last = glyph_digit (n % 10) (omega arith) in
-    (λ i. rest i ++ (last i ∷ [])) ∙ sym (up_to_more most n (omega (arith, low, pow-suc 10 r, one-le-pow r 10 (omega arith))))
-
--- a number of 64 bits has at most 20
-few : (n r : ℕ) → n < 18446744073709551616 → IsDigitCount 10 1 n r → r ≤ 20
-few n r h f = by (leb r 20) refl
+-- it is std's, by its last digits
+up_to_std : (most n : ℕ) → n < 10 ^ suc most → n < 18446744073709551616 → std.decimal n ≡ decimal_up_to (suc most) n
+up_to_std zero n h wide =
+    let small : n < 10 = omega arith in
+    decimal_digit n small ∙ sym (up_to_one zero n small)
+up_to_std (suc most) n h wide =
+    by (ltb n 10) refl (up_to_std most (n / 10) (omega (arith, h, pow-suc 10 (suc most))) (omega arith))
   where
-    over : 20 < r → ⊥
-    over k =
-        let low : 10 ^ (r - 1) ≤ n = f.2 (omega arith) in
-        let high : 10 ^ 20 ≤ 10 ^ (r - 1) = pow-le-pow_right {n = 10} (omega arith) {i = 20} {j = r - 1} (omega arith) in
-        let bound : 100000000000000000000 ≤ 10 ^ (r - 1) = high in
-        omega (arith, low, bound)
+    by : (b : Bool) → ltb n 10 ≡ b → std.decimal (n / 10) ≡ decimal_up_to (suc most) (n / 10) → std.decimal n ≡ decimal_up_to (suc (suc most)) n
+    by true q rest =
+        let small = ltb-true n 10 q in
+        decimal_digit n small ∙ sym (up_to_one (suc most) n small)
+    by false q rest =
+        let big = ltb-false n 10 q in
+        decimal_step n big (omega arith) ∙ (ap (λ (ds : List ℕ). ds ++ ((48 + n % 10) ∷ [])) rest ∙ sym (up_to_more (suc most) n big))
 
-    by : (b : Bool) → leb r 20 ≡ b → r ≤ 20
-    by true e = leb-true r 20 e
-    by false e = absurd (over (leb-false r 20 e))
-
--- as `io::decimal` answers
-pub spelt : {n r : ℕ} (front : List ℕ) → n < 18446744073709551616 → IsDigitCount 10 1 n r → front ≡ last_digits 10 r n → front ≡ decimal n
+pub std_decimal : (n : ℕ) → n < 18446744073709551616 → std.decimal n ≡ decimal n
 unfolding decimal
-spelt {n} {r} front h f e = e ∙ decimal_digits r 20 n f (few n r h f)
+std_decimal n h = up_to_std 19 n (omega arith) h
+
+-- as `itoa` writes it to the end of 20 bytes
+pub spelt : {n : ℕ} (start : ℕ) (written : List ℕ) → n < 18446744073709551616 → start + length (std.decimal n) ≡ 20 → written ≡ std.decimal n ++ []
+    → take (20 - start) written ≡ decimal n
+spelt {n} start written h place e =
+    ap (take (20 - start)) e ∙ (take_at (std.decimal n) [] (20 - start) (omega arith) ∙ std_decimal n h)
 
 -- ---- its length
 

@@ -7,8 +7,6 @@ use mathlib.Core.List.{List, [], ◌∷◌}
 use mathlib.Core.Option.{Option, none, some, bind, map, none-ne-some}
 use lib.Dec.{eqb, leb}
 use lib.ListN.{length, take, replicate, length-replicate}
-use types.Run.{OneOf, miss}
-use denote.Enum.Declared.{tag_of}
 use borrow.Author.Tests.{lt-ltb, le-ltb, le-leb, eq-eqb, ne_eqb}
 use Rattle.text.specs.Text.{same, written}
 use Rattle.json_text.specs.Strings.{Decoded, string_at}
@@ -350,10 +348,6 @@ text_front before none q h = absurd (none-ne-some _ q)
 text_front before (some d) {t} q h =
     let e : d.text ≡ t = cc in
     ap (λ (s : List ℕ). take (length t) (written s before)) e ∙ written-take t before h
-
--- a text that isn't whole in its buffer, of the answers in their declared order
-pub no_length : (x : Copied) → OneOf (1 ∷ 2 ∷ []) (tag_of copy.the_type x) → (n : ℕ) → x ≡ Length n → ⊥
-no_length x h n e = miss (1 ∷ 2 ∷ []) 0 tt (subst (λ (y : Copied). OneOf (1 ∷ 2 ∷ []) (tag_of copy.the_type y)) e h)
 
 -- a line has room in a buffer of its limit
 abbrev pub zeros : List ℕ

@@ -3,8 +3,6 @@ use Prim.Native.Nat.{ℕ}
 use mathlib.Core.Path.{◌≡◌, refl}
 use mathlib.Core.Bool.{Bool, false, cond}
 use mathlib.Core.List.{List, [], ◌∷◌}
-use types.Run.{OneOf, miss}
-use denote.Enum.Declared.{tag_of}
 use Rattle.text.specs.Ascii.{ascii}
 use Rattle.json_text.specs.Access.{copied}
 use Rattle.json_text.specs.declared.Literal.{Literal}
@@ -28,10 +26,10 @@ unfolding form_here
 form_by line at p q r s t u =
     λ i. cond (p i) Connect (cond (q i) Subscribe (cond (r i) Publish (cond (s i) Connected (cond (t i) Disconnected (cond (u i) Ended Unknown)))))
 
--- the words behind the first, in their declared order, aren't `null`
-pub not_null : (l : Literal) → OneOf (1 ∷ 2 ∷ 3 ∷ []) (tag_of literal.the_type l) → is_null_word l ≡ false
+-- the other words aren't `null`
+pub not_null : (l : Literal) → (l ≡ Null → ⊥) → is_null_word l ≡ false
 unfolding is_null_word
-not_null Null h = absurd (miss (1 ∷ 2 ∷ 3 ∷ []) 0 tt h)
+not_null Null h = absurd (h refl)
 not_null True h = refl
 not_null False h = refl
 not_null Bad h = refl

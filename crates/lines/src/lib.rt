@@ -1,6 +1,7 @@
 // What the programs do with one line of input, on slices: `answer` turns an event line of `decide` into its call and says what came of it,
 // `output` writes that as a line, `input` gathers lines from bytes (document 01, Marked examples).
 #![tactic(auto)]
+
 pub mod answer;
 mod asking;
 pub mod client;

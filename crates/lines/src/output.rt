@@ -66,8 +66,8 @@ fn append_decimal(line: &mut [u8], at: usize, n: u64) -> usize
     ensures line_after { line.new ≡ take at line.old ++ (spec.decimal n ++ drop (at + length (spec.decimal n)) line.old) }
 {
     let mut digits = [0u8; 20];
-    let n = io::decimal(n, &mut digits);
-    append(line, at, &digits[..n])
+    let start = itoa::write_digits(n, &mut digits, 20);
+    append(line, at, &digits[start..])
 }
 
 // Writes the word.

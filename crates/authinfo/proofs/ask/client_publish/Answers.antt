@@ -9,29 +9,25 @@ use Rattle.authinfo.proofs.AskLaws.{Decided, refused_by, undecided_by, allowed_b
 use Rattle.authinfo.proofs.ask.client_publish.Goals as goal
 
 pub returns-then-allow : goal.returns-then-allow
-unfolding publish_says allowance
-unfolding question_of
+unfolding publish_says allowance question_of
 returns-then-allow c =
     let decided : Decided (record { superuser = c.args.superuser; id = c.args.id.now; name = given c.args.name c.args.names.now }) c.args.rules.now (publish c.args.qos c.args.retain c.args.disconnect c.args.topic.now) c.deciding.result = record { told = c.deciding.ensures ∙ sym (flag_decides c.args.qos c.args.retain c.args.disconnect c.args.topic.now _ c.args.rules.now) } in
     sym (allowed_by (decided) c.in-Rule.is c.if-allow.true)
 
 pub returns-in-Faulty : goal.returns-in-Faulty
-unfolding publish_says
-unfolding question_of
+unfolding publish_says question_of
 returns-in-Faulty c =
     let decided : Decided (record { superuser = c.args.superuser; id = c.args.id.now; name = given c.args.name c.args.names.now }) c.args.rules.now (publish c.args.qos c.args.retain c.args.disconnect c.args.topic.now) c.deciding.result = record { told = c.deciding.ensures ∙ sym (flag_decides c.args.qos c.args.retain c.args.disconnect c.args.topic.now _ c.args.rules.now) } in
     sym (refused_by (decided) c.in-Faulty.is)
 
 pub returns-in-NoRule : goal.returns-in-NoRule
-unfolding publish_says
-unfolding question_of
+unfolding publish_says question_of
 returns-in-NoRule c =
     let decided : Decided (record { superuser = c.args.superuser; id = c.args.id.now; name = given c.args.name c.args.names.now }) c.args.rules.now (publish c.args.qos c.args.retain c.args.disconnect c.args.topic.now) c.deciding.result = record { told = c.deciding.ensures ∙ sym (flag_decides c.args.qos c.args.retain c.args.disconnect c.args.topic.now _ c.args.rules.now) } in
     sym (undecided_by (decided) c.in-NoRule.is)
 
 pub returns-else-allow : goal.returns-else-allow
-unfolding publish_says refusal
-unfolding question_of
+unfolding publish_says refusal question_of
 returns-else-allow c =
     let decided : Decided (record { superuser = c.args.superuser; id = c.args.id.now; name = given c.args.name c.args.names.now }) c.args.rules.now (publish c.args.qos c.args.retain c.args.disconnect c.args.topic.now) c.deciding.result = record { told = c.deciding.ensures ∙ sym (flag_decides c.args.qos c.args.retain c.args.disconnect c.args.topic.now _ c.args.rules.now) } in
     sym (denied_by (decided) c.in-Rule.is c.if-allow.false)

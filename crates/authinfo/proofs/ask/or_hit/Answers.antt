@@ -6,7 +6,7 @@ use Rattle.authinfo.proofs.ask.or_hit.Goals as goal
 
 pub returns-in_default : goal.returns-in_default
 returns-in_default c =
-    seen_first c.args.found c.args.verdict c.args.n c.in_default.keys2
+    seen_first c.args.found c.args.verdict c.args.n c.in_default.not-NoRule
 
 pub returns-in-Misses : goal.returns-in-Misses
 unfolding or_hit hit_by

@@ -31,7 +31,7 @@ with_word-requires c =
 pub returns-then-stands_last : goal.returns-then-stands_last
 returns-then-stands_last c =
     let by_id : OneWord (ascii "{clientid}") c.args.configured.now c.dollar_from-at.result = one_word (ascii "{clientid}") c.args.configured.now refl (c.dollar_from-at.ensures ∙ dollar_first c.args.configured.now) (sym c.stands_last.ensures ∙ c.if-stands_last.true) in
-        c.with_word.ensures ∙ ap (λ (o : Option (List ℕ)). taken_by c.args.topic.now (filled_topic c.args.eq o)) (sym (fill_id c.args.id.now (given c.args.name c.args.names.now) c.args.configured.now (by_id)))
+    c.with_word.ensures ∙ ap (λ (o : Option (List ℕ)). taken_by c.args.topic.now (filled_topic c.args.eq o)) (sym (fill_id c.args.id.now (given c.args.name c.args.names.now) c.args.configured.now (by_id)))
 
 pub stands_last-requires-2 : goal.stands_last-requires-2
 stands_last-requires-2 c =
@@ -40,7 +40,7 @@ stands_last-requires-2 c =
 pub returns-in_default : goal.returns-in_default
 returns-in_default c =
     let by_name : OneWord (ascii "{username}") c.args.configured.now c.dollar_from-at.result = one_word (ascii "{username}") c.args.configured.now refl (c.dollar_from-at.ensures ∙ dollar_first c.args.configured.now) (sym c.stands_last-2.ensures ∙ c.if-stands_last-2.true) in
-        sym (filled_nobody c.args.topic.now c.args.id.now (given c.args.name c.args.names.now) c.args.eq c.args.configured.now (by_name).there (absent c.args.names.now c.in_default.is))
+    sym (filled_nobody c.args.topic.now c.args.id.now (given c.args.name c.args.names.now) c.args.eq c.args.configured.now (by_name).there (absent c.args.names.now c.in_default.is))
 
 pub with_word-requires-then-stands_last-2 : goal.with_word-requires-then-stands_last-2
 with_word-requires-then-stands_last-2 c =
@@ -50,5 +50,5 @@ with_word-requires-then-stands_last-2 c =
 pub returns-then-stands_last-2 : goal.returns-then-stands_last-2
 returns-then-stands_last-2 c =
     let by_name : OneWord (ascii "{username}") c.args.configured.now c.dollar_from-at.result = one_word (ascii "{username}") c.args.configured.now refl (c.dollar_from-at.ensures ∙ dollar_first c.args.configured.now) (sym c.stands_last-2.ensures ∙ c.if-stands_last-2.true) in
-        let named = c.part.ensures ∙ ap (λ (g : Given). given g c.args.names.now) (sym c.in-Length.is) in
+    let named = c.part.ensures ∙ ap (λ (g : Given). given g c.args.names.now) (sym c.in-Length.is) in
     c.with_word-then-stands_last-2.ensures ∙ ap (λ (o : Option (List ℕ)). taken_by c.args.topic.now (filled_topic c.args.eq o)) (sym (fill_name c.args.id.now (given c.args.name c.args.names.now) c.args.configured.now (by_name) named))

@@ -16,32 +16,32 @@ use Rattle.authinfo.proofs.filling.topic_at.Goals as goal
 pub overflow_add-at : goal.overflow_add-at
 overflow_add-at c =
     let found : Plain c.args.line.now c.args.at c.in-At.end = plain_string c.args.line.now c.args.at (sym c.requires.quote_value ∙ c.in-At.is) in
-        let p = found in omega arith
+    let p = found in omega arith
 
 pub slice_bounds-configured-count : goal.slice_bounds-configured-count
 slice_bounds-configured-count c =
     let found : Plain c.args.line.now c.args.at c.in-At.end = plain_string c.args.line.now c.args.at (sym c.requires.quote_value ∙ c.in-At.is) in
-        let p = found in omega arith
+    let p = found in omega arith
 
 pub slice_bounds-configured-start : goal.slice_bounds-configured-start
 slice_bounds-configured-start c =
     let found : Plain c.args.line.now c.args.at c.in-At.end = plain_string c.args.line.now c.args.at (sym c.requires.quote_value ∙ c.in-At.is) in
-        let p = found in omega arith
+    let p = found in omega arith
 
 pub slice_bounds-configured-end : goal.slice_bounds-configured-end
 slice_bounds-configured-end c =
     let found : Plain c.args.line.now c.args.at c.in-At.end = plain_string c.args.line.now c.args.at (sym c.requires.quote_value ∙ c.in-At.is) in
-        let p = found in omega arith
+    let p = found in omega arith
 
 pub configured-requires : goal.configured-requires
 configured-requires c =
     let found : Plain c.args.line.now c.args.at c.in-At.end = plain_string c.args.line.now c.args.at (sym c.requires.quote_value ∙ c.in-At.is) in
-        record { names_value = c.requires.names_value; short = short_there (string_at c.args.line.now c.args.at) (found).string c.requires.short_at }
+    record { names_value = c.requires.names_value; short = short_there (string_at c.args.line.now c.args.at) (found).string c.requires.short_at }
 
 pub returns-in-At : goal.returns-in-At
 returns-in-At c =
     let found : Plain c.args.line.now c.args.at c.in-At.end = plain_string c.args.line.now c.args.at (sym c.requires.quote_value ∙ c.in-At.is) in
-        c.configured.ensures
+    c.configured.ensures
     ∙ sym (ap (topic_takes c.args.topic.now c.args.id.now (given c.args.name c.args.names.now)) (text_there (string_at c.args.line.now c.args.at) (found).string))
 
 pub slice_bounds-decoded-end : goal.slice_bounds-decoded-end

@@ -20,10 +20,10 @@ slice_bounds-paste-end c =
 
 pub slice_bounds-taken-end : goal.slice_bounds-taken-end
 slice_bounds-taken-end c =
-    let full : Filled c.args.text.now c.args.at c.args.new.now c.paste-3.new.1.0 = three_parts c.args.text.now c.args.at c.args.new.now (replicate 256 0) c.requires.word_length_in_bounds (omega (arith, c.requires.short, c.requires.word_length_in_bounds, c.if-kept-new.false)) c.paste.ensures.buffer_after c.paste-2.ensures.buffer_after (rw part_to_end at c.paste-3.ensures.buffer_after) in
+    let full : Filled c.args.text.now c.args.at c.args.new.now c.paste-3.new.buffer = three_parts c.args.text.now c.args.at c.args.new.now (replicate 256 0) c.requires.word_length_in_bounds (omega (arith, c.requires.short, c.requires.word_length_in_bounds, c.if-kept-new.false)) c.paste.ensures.buffer_after c.paste-2.ensures.buffer_after (rw part_to_end at c.paste-3.ensures.buffer_after) in
     sym (length-take-le _ _ (full).room)
 
 pub returns : goal.returns
 returns c =
-    let full : Filled c.args.text.now c.args.at c.args.new.now c.paste-3.new.1.0 = three_parts c.args.text.now c.args.at c.args.new.now (replicate 256 0) c.requires.word_length_in_bounds (omega (arith, c.requires.short, c.requires.word_length_in_bounds, c.if-kept-new.false)) c.paste.ensures.buffer_after c.paste-2.ensures.buffer_after (rw part_to_end at c.paste-3.ensures.buffer_after) in
+    let full : Filled c.args.text.now c.args.at c.args.new.now c.paste-3.new.buffer = three_parts c.args.text.now c.args.at c.args.new.now (replicate 256 0) c.requires.word_length_in_bounds (omega (arith, c.requires.short, c.requires.word_length_in_bounds, c.if-kept-new.false)) c.paste.ensures.buffer_after c.paste-2.ensures.buffer_after (rw part_to_end at c.paste-3.ensures.buffer_after) in
     c.taken.ensures ∙ taken_same c.args.topic.now c.args.eq (full).front

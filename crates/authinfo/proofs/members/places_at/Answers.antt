@@ -31,52 +31,49 @@ loop-i-init c =
 pub returns-in-Bad : goal.returns-in-Bad
 unfolding places_on named_on
 returns-in-Bad c =
-    let behind_item : {step : Step} →
-    c.item.result ≡ step → places_on c.args.line.now c.with_member-found.result step ≡ places_at c.args.line.now c.args.at = λ {step} e. ap (λ (m : RulePlaces). places_on c.args.line.now m step) c.with_member-found.ensures
+    let behind_item : (step : Step) →
+    c.item.result ≡ step → places_on c.args.line.now c.with_member-found.result step ≡ places_at c.args.line.now c.args.at = λ step e. ap (λ (m : RulePlaces). places_on c.args.line.now m step) c.with_member-found.ensures
     ∙ (sym (places_step c.args.line.now c.loop-i.found c.loop-i.i c.loop-i-test.true (sym c.item.ensures ∙ e)) ∙ c.loop-i.invariant) in
-    c.no_places-in-Bad.ensures ∙ behind_item c.in-Bad.is
+    c.no_places-in-Bad.ensures ∙ behind_item _ c.in-Bad.is
 
 pub returns-in-Close : goal.returns-in-Close
-unfolding places_behind named_behind
-unfolding places_on places_behind named_on
+unfolding places_behind named_behind places_on named_on
 returns-in-Close c =
-    let behind_item : {step : Step} →
-    c.item.result ≡ step → places_on c.args.line.now c.with_member-found.result step ≡ places_at c.args.line.now c.args.at = λ {step} e. ap (λ (m : RulePlaces). places_on c.args.line.now m step) c.with_member-found.ensures
+    let behind_item : (step : Step) →
+    c.item.result ≡ step → places_on c.args.line.now c.with_member-found.result step ≡ places_at c.args.line.now c.args.at = λ step e. ap (λ (m : RulePlaces). places_on c.args.line.now m step) c.with_member-found.ensures
     ∙ (sym (places_step c.args.line.now c.loop-i.found c.loop-i.i c.loop-i-test.true (sym c.item.ensures ∙ e)) ∙ c.loop-i.invariant) in
-    let onward : {s : Separator} →
-    c.separator.result ≡ s → places_behind c.args.line.now c.with_member-found.result s ≡ places_at c.args.line.now c.args.at = λ e. ap (places_behind c.args.line.now c.with_member-found.result) (sym e ∙ c.separator.ensures) ∙ behind_item c.in-Next.is in
-    onward c.in-Close.is
+    let onward : (s : Separator) →
+    c.separator.result ≡ s → places_behind c.args.line.now c.with_member-found.result s ≡ places_at c.args.line.now c.args.at = λ s e. ap (places_behind c.args.line.now c.with_member-found.result) (sym e ∙ c.separator.ensures) ∙ behind_item _ c.in-Next.is in
+    onward _ c.in-Close.is
 
 pub loop-i-smaller : goal.loop-i-smaller
 loop-i-smaller c =
-    let forward : {next : ℕ} → c.separator.result ≡ Comma next → c.loop-i.i < next = λ e. omega (
+    let forward : (next : ℕ) → c.separator.result ≡ Comma next → c.loop-i.i < next = λ next e. omega (
       arith,
       item_next 7 c.args.line.now true 0 c.loop-i.i (sym c.item.ensures ∙ c.in-Next.is),
       comma_next c.args.line.now c.in-Next.c.at 0x7d (sym c.separator.ensures ∙ e),
     ) in
-    omega (arith, forward c.in-Comma.is)
+    omega (arith, forward _ c.in-Comma.is)
 
 pub loop-i-preserved : goal.loop-i-preserved
-unfolding places_behind named_behind last_places
-unfolding places_on places_behind named_on
+unfolding places_behind named_behind last_places places_on named_on
 loop-i-preserved c =
-    let behind_item : {step : Step} →
-    c.item.result ≡ step → places_on c.args.line.now c.with_member-found.result step ≡ places_at c.args.line.now c.args.at = λ {step} e. ap (λ (m : RulePlaces). places_on c.args.line.now m step) c.with_member-found.ensures
+    let behind_item : (step : Step) →
+    c.item.result ≡ step → places_on c.args.line.now c.with_member-found.result step ≡ places_at c.args.line.now c.args.at = λ step e. ap (λ (m : RulePlaces). places_on c.args.line.now m step) c.with_member-found.ensures
     ∙ (sym (places_step c.args.line.now c.loop-i.found c.loop-i.i c.loop-i-test.true (sym c.item.ensures ∙ e)) ∙ c.loop-i.invariant) in
-    let onward : {s : Separator} →
-    c.separator.result ≡ s → places_behind c.args.line.now c.with_member-found.result s ≡ places_at c.args.line.now c.args.at = λ e. ap (places_behind c.args.line.now c.with_member-found.result) (sym e ∙ c.separator.ensures) ∙ behind_item c.in-Next.is in
-    onward c.in-Comma.is
+    let onward : (s : Separator) →
+    c.separator.result ≡ s → places_behind c.args.line.now c.with_member-found.result s ≡ places_at c.args.line.now c.args.at = λ s e. ap (places_behind c.args.line.now c.with_member-found.result) (sym e ∙ c.separator.ensures) ∙ behind_item _ c.in-Next.is in
+    onward _ c.in-Comma.is
 
 pub returns-in-Neither : goal.returns-in-Neither
-unfolding places_behind named_behind
-unfolding places_on places_behind named_on
+unfolding places_behind named_behind places_on named_on
 returns-in-Neither c =
-    let behind_item : {step : Step} →
-    c.item.result ≡ step → places_on c.args.line.now c.with_member-found.result step ≡ places_at c.args.line.now c.args.at = λ {step} e. ap (λ (m : RulePlaces). places_on c.args.line.now m step) c.with_member-found.ensures
+    let behind_item : (step : Step) →
+    c.item.result ≡ step → places_on c.args.line.now c.with_member-found.result step ≡ places_at c.args.line.now c.args.at = λ step e. ap (λ (m : RulePlaces). places_on c.args.line.now m step) c.with_member-found.ensures
     ∙ (sym (places_step c.args.line.now c.loop-i.found c.loop-i.i c.loop-i-test.true (sym c.item.ensures ∙ e)) ∙ c.loop-i.invariant) in
-    let onward : {s : Separator} →
-    c.separator.result ≡ s → places_behind c.args.line.now c.with_member-found.result s ≡ places_at c.args.line.now c.args.at = λ e. ap (places_behind c.args.line.now c.with_member-found.result) (sym e ∙ c.separator.ensures) ∙ behind_item c.in-Next.is in
-    c.no_places-in-Neither.ensures ∙ onward c.in-Neither.is
+    let onward : (s : Separator) →
+    c.separator.result ≡ s → places_behind c.args.line.now c.with_member-found.result s ≡ places_at c.args.line.now c.args.at = λ s e. ap (places_behind c.args.line.now c.with_member-found.result) (sym e ∙ c.separator.ensures) ∙ behind_item _ c.in-Next.is in
+    c.no_places-in-Neither.ensures ∙ onward _ c.in-Neither.is
 
 pub returns : goal.returns
 unfolding last_places last_in

@@ -30,5 +30,5 @@ pub named_member-requires : goal.named_member-requires
 unfolding is_rest
 named_member-requires c =
     let found : Plain c.args.line.now c.args.at c.in-At.end = plain_string c.args.line.now c.args.at (sym c.plain_text.ensures ∙ c.in-At.is) in
-        let p = found in
+    let p = found in
     λ wanted. sym (is_begins c.args.line.now c.args.at wanted ∙ ap (is_rest wanted) p.string)

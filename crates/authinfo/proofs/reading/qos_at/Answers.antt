@@ -1,8 +1,5 @@
 -- By the place, the kind of its value, and of a number what it is. Assumes nothing.
 use mathlib.Core.Path.{sym, ap, ◌∙◌}
-use mathlib.Core.List.{[], ◌∷◌}
-use Rattle.json_text.specs.declared.Kind.TheVariants.{Number, Array}
-use Rattle.rule.proofs.MemberLaws.{other_kind}
 use Rattle.authinfo.specs.Places.{levels_from, one_level, qos_here}
 use Rattle.authinfo.proofs.ReadingLaws.{qos_on, qos_by, qos_other}
 use borrow.Author.Rules.{rules}
@@ -36,5 +33,4 @@ returns-in-Absent c =
 pub returns-in_default-kind_at : goal.returns-in_default-kind_at
 returns-in_default-kind_at c =
     sym (qos_by c.args.line.now c.args.asked c.in-At.is (sym c.kind_at.ensures)
-    ∙ qos_other c.args.line.now c.args.asked c.in-At.p c.kind_at.result (other_kind (1 ∷ 3 ∷ 4 ∷ 5 ∷ 6 ∷ []) c.kind_at.result Array c.in_default-kind_at.keys3 tt)
-    (other_kind (1 ∷ 3 ∷ 4 ∷ 5 ∷ 6 ∷ []) c.kind_at.result Number c.in_default-kind_at.keys3 tt))
+    ∙ qos_other c.args.line.now c.args.asked c.in-At.p c.kind_at.result c.in_default-kind_at.not-Array c.in_default-kind_at.not-Number)

@@ -1,13 +1,13 @@
 -- The loop's invariant: what the elements left come to, behind those that came to `takes`, is what all come to. The measure is the turns that
 -- are left. Assumes nothing.
 use mathlib.Core.Path.{◌≡◌, refl, sym, ap, ◌∙◌}
-use mathlib.Core.Logic.{⊎_elim}
 use Prim.Native.Nat.{◌-◌}
 use Rattle.authinfo.specs.Places.{level_here, levels_up_to, levels_from}
 use Rattle.authinfo.specs.declared.QosRead.TheVariants.{Takes}
 use Rattle.authinfo.proofs.ReadingLaws.{level_number, level_other, levels_end, levels_none, levels_next, levels_bad}
 use borrow.Author.Rules.{rules}
 use Rattle.authinfo.proofs.reading.qos_list.Goals as goal
+use Rattle.authinfo.proofs.reading.qos_list.Goals.{in-Is+in-Takes, in_default-number_value}
 
 pub loop-turns-init : goal.loop-turns-init
 unfolding levels_from
@@ -27,12 +27,13 @@ returns-in_default-with_level c =
 
 pub loop-turns-preserved : goal.loop-turns-preserved
 loop-turns-preserved c =
-    let level_here_lem : level_here c.args.line.now c.args.asked c.loop-turns.takes c.in-At.p ≡ Takes c.match-number_value.takes = ⊎_elim
-    (λ w. level_number c.args.line.now c.args.asked c.loop-turns.takes c.in-At.p (sym c.number_value.ensures ∙ w.1.given.1) ∙ (sym w.3.ensures ∙ (w.5.given.1 ∙ ap Takes (sym w.7))))
-    (λ w. level_other c.args.line.now c.args.asked c.loop-turns.takes c.in-At.p (sym c.number_value.ensures ∙ w.1.given.1) ∙ ap Takes (sym w.2))
-    c.match-number_value.branch in
-        ap (levels_up_to (c.loop-turns.turns - 1) c.args.line.now c.args.asked c.match-number_value.takes) c.next_item-next.ensures
-    ∙ (sym (levels_next c.loop-turns.turns c.args.line.now c.args.asked c.loop-turns.takes c.in-At.p c.loop-turns-test.true (level_here_lem))
+    let level_here_lem : level_here c.args.line.now c.args.asked c.loop-turns.takes c.in-At.p ≡ Takes c.match-number_value.takes = elim c.match-number_value.branch [
+      | in-Is+in-Takes w ↦ level_number c.args.line.now c.args.asked c.loop-turns.takes c.in-At.p (sym c.number_value.ensures ∙ w.in-Is.is)
+          ∙ (sym w.with_level.ensures ∙ (w.in-Takes.is ∙ ap Takes (sym w.takes-is)))
+      | in_default-number_value w ↦ level_other c.args.line.now c.args.asked c.loop-turns.takes c.in-At.p (sym c.number_value.ensures ∙ w.in_default-number_value.is) ∙ ap Takes (sym w.takes-is)
+    ] in
+    ap (levels_up_to (c.loop-turns.turns - 1) c.args.line.now c.args.asked c.match-number_value.takes) c.next_item-next.ensures
+    ∙ (sym (levels_next c.loop-turns.turns c.args.line.now c.args.asked c.loop-turns.takes c.in-At.p c.loop-turns-test.true level_here_lem)
     ∙ (ap (levels_up_to c.loop-turns.turns c.args.line.now c.args.asked c.loop-turns.takes) (sym c.in-At.is) ∙ c.loop-turns.invariant))
 
 pub returns : goal.returns

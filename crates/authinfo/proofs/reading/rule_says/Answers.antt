@@ -1,15 +1,15 @@
 -- Each return has what was read of the members that led there. Assumes nothing.
 use mathlib.Core.Path.{◌≡◌, refl, sym, ap, subst, ◌∙◌}
-use mathlib.Core.Bool.{Bool, ◌&&◌}
-use mathlib.Core.Logic.{⊎_elim}
+use mathlib.Core.Bool.{Bool, true, false, ◌&&◌}
 use Rattle.rule.specs.Members.{truth_from}
 use Rattle.rule.specs.Places.{given}
 use Rattle.authinfo.specs.Places.{ShortTopic, takes_kind, verdict, topic_from, by_topic, with_qos, with_action, with_permission}
 use Rattle.authinfo.specs.OnePass.{quote_at}
 use Rattle.authinfo.specs.declared.LineRead.TheVariants.{Says}
-use Rattle.authinfo.proofs.ReadingLaws.{parts_by, qos_asked_lem, and-true, and-false}
+use Rattle.authinfo.proofs.ReadingLaws.{parts_by, qos_asked_lem}
 use borrow.Author.Rules.{rules}
 use Rattle.authinfo.proofs.reading.rule_says.Goals as goal
+use Rattle.authinfo.proofs.reading.rule_says.Goals.{then-level, else-level, then-kind, else-kind}
 
 pub returns-in_default : goal.returns-in_default
 unfolding with_permission
@@ -64,12 +64,19 @@ returns-in-Refused c =
 pub returns-after-kind : goal.returns-after-kind
 unfolding with_permission with_action with_qos by_topic topic_from
 returns-after-kind c =
-    let all_hit : c.if-kind.verdict
-    ≡ ((c.in-Takes.level && takes_kind c.in-Is.allow c.in-Is-covered.action (truth_from c.args.line.now c.args.parts.retain) c.args.asked) && c.in-Takes-topic_at.taken) = let kinds = c.takes_kind-kind.ensures ∙ ap (λ t. takes_kind c.in-Is.allow c.in-Is-covered.action t c.args.asked) c.truth_at.ensures in
-    ⊎_elim (λ w. and-true c.in-Takes-topic_at.taken w.0.taken w.1) (λ w. and-false c.in-Takes-topic_at.taken w.0.left w.1) c.if-kind.branch
-    ∙ ap (λ (b : Bool). b && c.in-Takes-topic_at.taken)
-    (⊎_elim (λ w. and-true c.takes_kind-kind.result w.0.taken w.1) (λ w. and-false c.takes_kind-kind.result w.0.left w.1) c.if-level.branch ∙ ap (λ (b : Bool). c.in-Takes.level && b) kinds) in
-        ap Says (c.verdict.ensures ∙ ap (verdict c.in-Is.allow) (all_hit))
+    let kind : Bool = takes_kind c.in-Is.allow c.in-Is-covered.action (truth_from c.args.line.now c.args.parts.retain) c.args.asked in
+    let kinds : c.takes_kind-kind.result ≡ kind = c.takes_kind-kind.ensures ∙ ap (λ t. takes_kind c.in-Is.allow c.in-Is-covered.action t c.args.asked) c.truth_at.ensures in
+    let all_hit : c.if-kind.verdict ≡ ((c.in-Takes.level && kind) && c.in-Takes-topic_at.taken) = elim c.if-kind.branch [
+      | then-kind w ↦ elim c.if-level.branch [
+        | then-level v ↦ (let k : kind ≡ true = cc in rw (v.if-level.true, k) cc)
+        | else-level v ↦ cc
+      ]
+      | else-kind w ↦ elim c.if-level.branch [
+        | then-level v ↦ (let k : kind ≡ false = cc in rw (v.if-level.true, k) cc)
+        | else-level v ↦ rw (v.if-level.false) cc
+      ]
+    ] in
+    ap Says (c.verdict.ensures ∙ ap (verdict c.in-Is.allow) all_hit)
     ∙ sym (parts_by c.args.line.now c.args.parts c.args.asked c.args.id.now (given c.args.name c.args.names.now) c.args.topic.now
     c.in-Is.is
     c.in-Is-covered.is

@@ -1,10 +1,8 @@
 -- By the question, the action, the retain and the permission. Assumes nothing.
 use mathlib.Core.Path.{refl, sym, ◌∙◌}
-use mathlib.Core.List.{[], ◌∷◌}
 use Rattle.authinfo.specs.Decision.{covers, retain_hits, publish_retain}
 use Rattle.authinfo.specs.Places.{question_of, takes_kind, flag_of}
-use Rattle.authinfo.specs.declared.Action.TheVariants.{Subscribe}
-use Rattle.authinfo.proofs.ReadingLaws.{other_action, kind_by, publish_kind, publish_by}
+use Rattle.authinfo.proofs.ReadingLaws.{kind_by, publish_kind, publish_by}
 use borrow.Author.Rules.{rules}
 use Rattle.authinfo.proofs.reading.takes_kind.Goals as goal
 
@@ -16,12 +14,12 @@ returns-in-Subscribe-action-2 c =
 pub returns-then-flag : goal.returns-then-flag
 unfolding publish_retain
 returns-then-flag c =
-    c.if-flag.true ∙ sym (publish_by c.if-allow.true (other_action (0 ∷ 1 ∷ []) c.args.action Subscribe c.in_default.keys2 tt) c.in-Holds.is c.in-Publish.is c.if-flag.true)
+    c.if-flag.true ∙ sym (publish_by c.if-allow.true c.in_default.not-Subscribe c.in-Holds.is c.in-Publish.is c.if-flag.true)
 
 pub returns-else-flag : goal.returns-else-flag
 unfolding publish_retain
 returns-else-flag c =
-    sym (publish_by c.if-allow.true (other_action (0 ∷ 1 ∷ []) c.args.action Subscribe c.in_default.keys2 tt) c.in-Holds.is c.in-Publish.is c.if-flag.false)
+    sym (publish_by c.if-allow.true c.in_default.not-Subscribe c.in-Holds.is c.in-Publish.is c.if-flag.false)
 
 pub returns-in-All : goal.returns-in-All
 unfolding takes_kind covers question_of retain_hits
@@ -42,9 +40,9 @@ pub returns-in-Unknown : goal.returns-in-Unknown
 unfolding publish_retain flag_of
 returns-in-Unknown c =
     sym (kind_by refl refl c.in-Unknown.is c.in-Publish.is
-    ∙ publish_kind c.args.allow c.args.action _ _ _ (other_action (0 ∷ 1 ∷ []) c.args.action Subscribe c.in_default.keys2 tt))
+    ∙ publish_kind c.args.allow c.args.action _ _ _ c.in_default.not-Subscribe)
 
 pub returns-else-allow : goal.returns-else-allow
 unfolding publish_retain
 returns-else-allow c =
-    sym (publish_by c.if-allow.false (other_action (0 ∷ 1 ∷ []) c.args.action Subscribe c.in_default.keys2 tt) c.in-Holds.is c.in-Publish.is refl)
+    sym (publish_by c.if-allow.false c.in_default.not-Subscribe c.in-Holds.is c.in-Publish.is refl)

@@ -1,19 +1,18 @@
 -- By the two flags. Assumes nothing.
-use borrow.Author.Tests.{not-true, not-false}
 use Rattle.authinfo.specs.Places.{verdict}
 use Rattle.authinfo.proofs.reading.verdict.Goals as goal
 
 pub returns-then-not-hits : goal.returns-then-not-hits
 unfolding verdict
 returns-then-not-hits c =
-    rw (not-true c.args.hits c.if-not-hits.true)
+    rw c.if-not-hits.true
 
 pub returns-then-allow : goal.returns-then-allow
 unfolding verdict
 returns-then-allow c =
-    rw (not-false c.args.hits c.if-not-hits.false, c.if-allow.true)
+    rw (c.if-not-hits.false, c.if-allow.true)
 
 pub returns : goal.returns
 unfolding verdict
 returns c =
-    rw (not-false c.args.hits c.if-not-hits.false, c.if-allow.false)
+    rw (c.if-not-hits.false, c.if-allow.false)

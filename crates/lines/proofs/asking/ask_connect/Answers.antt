@@ -25,9 +25,9 @@ returns-in_default-asked_as c es is at =
     let asked : (es : Elements)
     → line_value c.args.line.now ≡ some (array es)
     → c.args.f ≡ fields_here c.args.line.now
-    → Asks es c.in-Asker.a c.asker_at.new.1.1.0 c.asker_at.new.1.1.1.0 c.asker_at.new.1.1.1.1.0 c.asker_at.new.1.1.1.1.1.0 = λ es is at. asker_told c.args.line.now es is c.args.f at zeros c.requires c.asker_at.ensures.value c.asker_at.ensures.ids_after c.asker_at.ensures.names_after
+    → Asks es c.in-Asker.a c.asker_at.new.ids c.asker_at.new.names c.asker_at.new.passwords c.asker_at.new.addresses = λ es is at. asker_told c.args.line.now es is c.args.f at zeros c.requires c.asker_at.ensures.value c.asker_at.ensures.ids_after c.asker_at.ensures.names_after
     c.asker_at.ensures.passwords_after c.asker_at.ensures.addresses_after c.in-Asker.is in
-        c.malformed-in_default-asked_as.ensures ∙ connect_any es (asked es is at) c.args.store.now c.in_default-asked_as.is
+    c.malformed-in_default-asked_as.ensures ∙ connect_any es (asked es is at) c.args.store.now c.in_default-asked_as.is
 
 pub slice_bounds-connect-end : goal.slice_bounds-connect-end
 slice_bounds-connect-end c =
@@ -38,9 +38,9 @@ returns c es is at =
     let asked : (es : Elements)
     → line_value c.args.line.now ≡ some (array es)
     → c.args.f ≡ fields_here c.args.line.now
-    → Asks es c.in-Asker.a c.asker_at.new.1.1.0 c.asker_at.new.1.1.1.0 c.asker_at.new.1.1.1.1.0 c.asker_at.new.1.1.1.1.1.0 = λ es is at. asker_told c.args.line.now es is c.args.f at zeros c.requires c.asker_at.ensures.value c.asker_at.ensures.ids_after c.asker_at.ensures.names_after
+    → Asks es c.in-Asker.a c.asker_at.new.ids c.asker_at.new.names c.asker_at.new.passwords c.asker_at.new.addresses = λ es is at. asker_told c.args.line.now es is c.args.f at zeros c.requires c.asker_at.ensures.value c.asker_at.ensures.ids_after c.asker_at.ensures.names_after
     c.asker_at.ensures.passwords_after c.asker_at.ensures.addresses_after c.in-Asker.is in
-        c.connect_said.ensures
+    c.connect_said.ensures
     ∙ (ap reply_said c.connect.ensures
     ∙ connect_asks es (asked es is at) c.args.store.now (sym (eighth_is c.args.line.now es is c.args.f at) ∙ c.in-Nowhere.is)
     c.in-Is.is)

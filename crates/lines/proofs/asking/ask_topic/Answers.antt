@@ -25,7 +25,7 @@ pub returns-in_default-text_at : goal.returns-in_default-text_at
 returns-in_default-text_at c es is at =
     c.malformed-in_default-text_at.ensures
     ∙ topic_absent c.args.publishing es c.args.store.now
-    (topic_wrong c.args.line.now es is c.args.f at zeros c.requires c.text_at.ensures.value c.in_default-text_at.keys2)
+    (topic_wrong c.args.line.now es is c.args.f at zeros c.requires c.text_at.ensures.value c.in_default-text_at.not-Length)
 
 pub slice_bounds-topic_said-end : goal.slice_bounds-topic_said-end
 slice_bounds-topic_said-end c =
@@ -40,9 +40,9 @@ returns c es is at =
     let asked : (es : Elements)
     → line_value c.args.line.now ≡ some (array es)
     → c.args.f ≡ fields_here c.args.line.now
-    → Asks es c.in-Asker.a c.asker_at.new.1.1.0 c.asker_at.new.1.1.1.0 c.asker_at.new.1.1.1.1.0 c.asker_at.new.1.1.1.1.1.0 = λ es is at. asker_told c.args.line.now es is c.args.f at zeros c.requires c.asker_at.ensures.value c.asker_at.ensures.ids_after c.asker_at.ensures.names_after
+    → Asks es c.in-Asker.a c.asker_at.new.ids c.asker_at.new.names c.asker_at.new.passwords c.asker_at.new.addresses = λ es is at. asker_told c.args.line.now es is c.args.f at zeros c.requires c.asker_at.ensures.value c.asker_at.ensures.ids_after c.asker_at.ensures.names_after
     c.asker_at.ensures.passwords_after c.asker_at.ensures.addresses_after c.in-Asker.is in
-        c.topic_said.ensures
+    c.topic_said.ensures
     ∙ topic_asks c.args.publishing es c.args.store.now (sym (ninth_is c.args.line.now es is c.args.f at) ∙ c.in-Nowhere.is)
     (asked es is at)
     (topic_told c.args.line.now es is c.args.f at zeros c.requires c.text_at.ensures.value c.text_at.ensures.buffer_after c.in-Length.is)

@@ -11,7 +11,7 @@ returns-in_default c =
 
 pub returns-in_default-id : goal.returns-in_default-id
 returns-in_default-id c =
-    rw c.in-Is.is (no_id _ _ _ _ _ _ c.in_default-id.keys2)
+    rw c.in-Is.is (no_id _ _ _ _ _ _ c.in_default-id.not-Length)
 
 pub returns-in_default-name : goal.returns-in_default-name
 unfolding with_id with_texts with_protocol

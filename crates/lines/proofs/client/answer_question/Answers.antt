@@ -20,4 +20,4 @@ returns-in-Publish c es is =
 
 pub returns-in_default : goal.returns-in_default
 returns-in_default c es is =
-    unasked _ _ c.no_question.ensures (question_is c.args.line.now es is (c.form.ensures ∙ ap (λ (f : Fields). form_here c.args.line.now f.first) c.read_fields-f.ensures) ∙ other_form es _ c.in_default.keys3)
+    unasked _ _ c.no_question.ensures (question_is c.args.line.now es is (c.form.ensures ∙ ap (λ (f : Fields). form_here c.args.line.now f.first) c.read_fields-f.ensures) ∙ other_form es _ c.in_default.not-Subscribe c.in_default.not-Publish)

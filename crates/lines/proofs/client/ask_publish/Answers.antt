@@ -1,7 +1,7 @@
 -- Each return has what was read of the elements. Assumes nothing.
 use mathlib.Core.Path.{sym, ◌∙◌}
 use Rattle.rule.proofs.DecodeLaws.{decoded_length}
-use Rattle.lines.proofs.ElementLaws.{no_length, zeros, roomy}
+use Rattle.lines.proofs.ElementLaws.{zeros, roomy}
 use Rattle.lines.proofs.ClientLaws.{unasked, asked, publish_more, publish_bad, publish_no_retain, publish_no_disconnect, publish_no_topic, publish-is}
 use borrow.Author.Rules.{rules}
 use Rattle.lines.proofs.client.ask_publish.Goals as goal
@@ -24,7 +24,7 @@ returns-in_default-truth_at-2 c es is at =
 
 pub returns-in_default-text_at : goal.returns-in_default-text_at
 returns-in_default-text_at c es is at =
-    unasked _ _ c.no_question-in_default-text_at.ensures (publish_no_topic c.args.line.now c.args.f es is at zeros (roomy c.args.line.now c.requires) (sym c.number_at.ensures ∙ c.in-Is.is) (sym c.truth_at.ensures ∙ c.in-Holds.is) (sym c.truth_at-2.ensures ∙ c.in-Holds-truth_at.is) (λ n h. no_length _ c.in_default-text_at.keys2 n (c.text_at.ensures.value ∙ h)))
+    unasked _ _ c.no_question-in_default-text_at.ensures (publish_no_topic c.args.line.now c.args.f es is at zeros (roomy c.args.line.now c.requires) (sym c.number_at.ensures ∙ c.in-Is.is) (sym c.truth_at.ensures ∙ c.in-Holds.is) (sym c.truth_at-2.ensures ∙ c.in-Holds-truth_at.is) (λ n h. c.in_default-text_at.not-Length n (c.text_at.ensures.value ∙ h)))
 
 pub slice_bounds-client_publish-end : goal.slice_bounds-client_publish-end
 slice_bounds-client_publish-end c =

@@ -17,7 +17,7 @@ returns-in_default-superuser c =
 pub returns-in_default-id : goal.returns-in_default-id
 unfolding nothing_at
 returns-in_default-id c =
-    rw (c.in-Nowhere.is, c.in-Holds.is) (no_id _ _ _ c.in_default-id.keys2)
+    rw (c.in-Nowhere.is, c.in-Holds.is) (no_id _ _ _ c.in_default-id.not-Length)
 
 pub returns-in_default-name : goal.returns-in_default-name
 unfolding nothing_at with_truth with_name

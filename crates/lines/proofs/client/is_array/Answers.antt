@@ -2,8 +2,6 @@
 use mathlib.Core.Path.{sym, ap, ◌∙◌}
 use mathlib.Core.Bool.{not, not-not}
 use mathlib.Core.List.{[], ◌∷◌}
-use Rattle.json_text.specs.declared.Kind.TheVariants.{Array}
-use Rattle.rule.proofs.MemberLaws.{other_kind}
 use Rattle.lines.proofs.ClientLaws.{long_array, no_document, array-first, other_first}
 use borrow.Author.Rules.{rules}
 use Rattle.lines.proofs.client.is_array.Goals as goal
@@ -14,14 +12,14 @@ returns-then-line-gt-LINE c =
 
 pub returns-then-not-is_document : goal.returns-then-not-is_document
 returns-then-not-is_document c =
-    no_document c.args.line.now c.if-line-gt-LINE.false (sym c.is_document.ensures ∙ (sym (not-not _) ∙ ap not c.if-not-is_document.true))
+    no_document c.args.line.now c.if-line-gt-LINE.false (sym c.is_document.ensures ∙ c.if-not-is_document.true)
 
 pub returns-in-Array : goal.returns-in-Array
 returns-in-Array c =
-    array-first c.args.line.now c.if-line-gt-LINE.false (sym c.is_document.ensures ∙ (sym (not-not _) ∙ ap not c.if-not-is_document.false))
+    array-first c.args.line.now c.if-line-gt-LINE.false (sym c.is_document.ensures ∙ c.if-not-is_document.false)
     (sym c.first_kind.ensures ∙ c.in-Array.is)
 
 pub returns-in_default : goal.returns-in_default
 returns-in_default c =
-    other_first c.args.line.now c.if-line-gt-LINE.false (sym c.is_document.ensures ∙ (sym (not-not _) ∙ ap not c.if-not-is_document.false))
-    (λ e. other_kind (0 ∷ 1 ∷ 3 ∷ 4 ∷ 5 ∷ 6 ∷ []) c.first_kind.result Array c.in_default.keys2 tt (c.first_kind.ensures ∙ e))
+    other_first c.args.line.now c.if-line-gt-LINE.false (sym c.is_document.ensures ∙ c.if-not-is_document.false)
+    (λ e. c.in_default.not-Array (c.first_kind.ensures ∙ e))

@@ -18,4 +18,4 @@ returns-in-Null c =
 pub returns-in_default-literal_at : goal.returns-in_default-literal_at
 unfolding null_from
 returns-in_default-literal_at c =
-    sym (ap (null_from c.args.line.now) c.in-At.is ∙ (ap is_null_word (sym c.literal_at.ensures) ∙ not_null _ c.in_default-literal_at.keys2))
+    sym (ap (null_from c.args.line.now) c.in-At.is ∙ (ap is_null_word (sym c.literal_at.ensures) ∙ not_null _ c.in_default-literal_at.not-Null))

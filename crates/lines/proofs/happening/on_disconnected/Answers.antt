@@ -5,7 +5,7 @@ use Prim.Native.Nat.{◌-◌}
 use lib.ListN.{take}
 use Rattle.rule.proofs.DecodeLaws.{decoded_length}
 use Rattle.lines.specs.Call.{disconnected_in}
-use Rattle.lines.proofs.ElementLaws.{no_length, zeros, roomy}
+use Rattle.lines.proofs.ElementLaws.{zeros, roomy}
 use Rattle.lines.proofs.HappeningLaws.{no_call, event_call, disconnected_more, disconnected_bad, disconnected_no_id, disconnected_is}
 use borrow.Author.Rules.{rules}
 use Rattle.lines.proofs.happening.on_disconnected.Goals as goal
@@ -20,7 +20,7 @@ returns-in_default-number_at c =
 
 pub returns-in_default-text_at : goal.returns-in_default-text_at
 returns-in_default-text_at c =
-    let whole = no_call c.args.line.now c.args.store.now c.args.f disconnected_in c.malformed-in_default-text_at.ensures (λ es e q. disconnected_no_id c.args.line.now c.args.f es e q zeros (roomy c.args.line.now c.requires) (sym c.number_at.ensures ∙ c.in-Is.is) (λ n h. no_length _ c.in_default-text_at.keys2 n (c.text_at.ensures.value ∙ h))) in record { value = whole.0; store_after = whole.1 }
+    let whole = no_call c.args.line.now c.args.store.now c.args.f disconnected_in c.malformed-in_default-text_at.ensures (λ es e q. disconnected_no_id c.args.line.now c.args.f es e q zeros (roomy c.args.line.now c.requires) (sym c.number_at.ensures ∙ c.in-Is.is) (λ n h. c.in_default-text_at.not-Length n (c.text_at.ensures.value ∙ h))) in record { value = whole.0; store_after = whole.1 }
 
 pub slice_bounds-disconnected-end : goal.slice_bounds-disconnected-end
 slice_bounds-disconnected-end c =
@@ -28,5 +28,5 @@ slice_bounds-disconnected-end c =
 
 pub returns : goal.returns
 returns c =
-    let whole = event_call c.args.line.now c.args.store.now c.args.f disconnected_in (event.disconnected c.in-Is.session (take (c.in-Length.id - 0) c.text_at.new.1.1.0)) c.event_said.ensures c.disconnected.ensures.result_value c.disconnected.ensures.store_after
+    let whole = event_call c.args.line.now c.args.store.now c.args.f disconnected_in (event.disconnected c.in-Is.session (take (c.in-Length.id - 0) c.text_at.new.buffer)) c.event_said.ensures c.disconnected.ensures.result_value c.disconnected.ensures.store_after
     (λ es e q. disconnected_is c.args.line.now c.args.f es e q zeros (roomy c.args.line.now c.requires) c.in-Nowhere.is (sym c.number_at.ensures ∙ c.in-Is.is) (sym c.text_at.ensures.value ∙ c.in-Length.is) c.text_at.ensures.buffer_after) in record { value = whole.0; store_after = whole.1 }

@@ -1,18 +1,21 @@
--- The digits that `io::decimal` spells are the number's decimal (`spelt`), and `append` puts them behind the text. Assumes nothing.
+-- The digits that `itoa` writes are the number's decimal (`spelt`), and `append` puts them behind the text. Assumes nothing.
 use mathlib.Core.Path.{◌≡◌, ap}
+use Prim.Native.Nat.{◌-◌}
 use native.Mathlib.Omega.{arith}
-use lib.ListN.{length, take}
+use lib.ListN.{length, take, drop}
 use Rattle.lines.specs.Output.{decimal}
-use Rattle.lines.proofs.DecimalLaws.{spelt}
-use borrow.Author.Rules.{rules}
+use Rattle.lines.proofs.DecimalLaws.{std_decimal, decimal-length, spelt}
 use Rattle.lines.proofs.output.append_decimal.Goals as goal
+
+pub write_digits-start-requires : goal.write_digits-start-requires
+write_digits-start-requires c = (rw (std_decimal c.args.n (omega arith)) (decimal-length c.args.n), omega arith)
 
 pub append-requires : goal.append-requires
 append-requires c =
-    let spelling : take c.decimal-n.result c.decimal-n.new.1.0 ≡ decimal c.args.n = spelt {n = c.args.n} _ (omega arith) c.decimal-n.ensures.len c.decimal-n.ensures.1.1 in
-    omega (arith, ap length (spelling))
+    let spelling : take (20 - c.write_digits-start.result) (drop c.write_digits-start.result c.write_digits-start.new.buf) ≡ decimal c.args.n = spelt c.write_digits-start.result _ (omega arith) c.write_digits-start.ensures.start c.write_digits-start.ensures.written in
+    omega (arith, ap length spelling)
 
 pub returns : goal.returns
 returns c =
-    let spelling : take c.decimal-n.result c.decimal-n.new.1.0 ≡ decimal c.args.n = spelt {n = c.args.n} _ (omega arith) c.decimal-n.ensures.len c.decimal-n.ensures.1.1 in
-    let whole = rw (spelling) at (c.append.ensures.value, c.append.ensures.line_after) in record { value = whole.0; line_after = whole.1 }
+    let spelling : take (20 - c.write_digits-start.result) (drop c.write_digits-start.result c.write_digits-start.new.buf) ≡ decimal c.args.n = spelt c.write_digits-start.result _ (omega arith) c.write_digits-start.ensures.start c.write_digits-start.ensures.written in
+    record { value = rw spelling at c.append.ensures.value; line_after = rw spelling at c.append.ensures.line_after }

@@ -9,7 +9,7 @@ append-behind-requires c =
 
 pub append_decimal-requires : goal.append_decimal-requires
 append_decimal-requires c =
-    number_fits c.in-Is.n c.args.line.now c.args.at c.in-Is.is c.requires c.append-behind.new.0 c.append-behind.ensures.value c.append-behind.auto.0
+    number_fits c.in-Is.n c.args.line.now c.args.at c.in-Is.is c.requires c.append-behind.new.line c.append-behind.ensures.value c.append-behind.auto.line
 
 pub returns-in-Absent : goal.returns-in-Absent
 returns-in-Absent c =

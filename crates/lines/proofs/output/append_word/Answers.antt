@@ -50,39 +50,39 @@ append-requires-in-Error c =
 pub returns-in-Done : goal.returns-in-Done
 unfolding word_text
 returns-in-Done c =
-    let whole = rw c.in-Done.is (c.append.ensures.value, c.append.ensures.line_after) in record { value = whole.0; line_after = whole.1 }
+    record { value = rw c.in-Done.is c.append.ensures.value; line_after = rw c.in-Done.is c.append.ensures.line_after }
 
 pub returns-in-Kept : goal.returns-in-Kept
 unfolding word_text
 returns-in-Kept c =
-    let whole = rw c.in-Kept.is (c.append-in-Kept.ensures.value, c.append-in-Kept.ensures.line_after) in record { value = whole.0; line_after = whole.1 }
+    record { value = rw c.in-Kept.is c.append-in-Kept.ensures.value; line_after = rw c.in-Kept.is c.append-in-Kept.ensures.line_after }
 
 pub returns-in-Allow : goal.returns-in-Allow
 unfolding word_text
 returns-in-Allow c =
-    let whole = rw c.in-Allow.is (c.append-in-Allow.ensures.value, c.append-in-Allow.ensures.line_after) in record { value = whole.0; line_after = whole.1 }
+    record { value = rw c.in-Allow.is c.append-in-Allow.ensures.value; line_after = rw c.in-Allow.is c.append-in-Allow.ensures.line_after }
 
 pub returns-in-Super : goal.returns-in-Super
 unfolding word_text
 returns-in-Super c =
-    let whole = rw c.in-Super.is (c.append-in-Super.ensures.value, c.append-in-Super.ensures.line_after) in record { value = whole.0; line_after = whole.1 }
+    record { value = rw c.in-Super.is c.append-in-Super.ensures.value; line_after = rw c.in-Super.is c.append-in-Super.ensures.line_after }
 
 pub returns-in-Refuse : goal.returns-in-Refuse
 unfolding word_text
 returns-in-Refuse c =
-    let whole = rw c.in-Refuse.is (c.append-in-Refuse.ensures.value, c.append-in-Refuse.ensures.line_after) in record { value = whole.0; line_after = whole.1 }
+    record { value = rw c.in-Refuse.is c.append-in-Refuse.ensures.value; line_after = rw c.in-Refuse.is c.append-in-Refuse.ensures.line_after }
 
 pub returns-in-Drop : goal.returns-in-Drop
 unfolding word_text
 returns-in-Drop c =
-    let whole = rw c.in-Drop.is (c.append-in-Drop.ensures.value, c.append-in-Drop.ensures.line_after) in record { value = whole.0; line_after = whole.1 }
+    record { value = rw c.in-Drop.is c.append-in-Drop.ensures.value; line_after = rw c.in-Drop.is c.append-in-Drop.ensures.line_after }
 
 pub returns-in-NoDecision : goal.returns-in-NoDecision
 unfolding word_text
 returns-in-NoDecision c =
-    let whole = rw c.in-NoDecision.is (c.append-in-NoDecision.ensures.value, c.append-in-NoDecision.ensures.line_after) in record { value = whole.0; line_after = whole.1 }
+    record { value = rw c.in-NoDecision.is c.append-in-NoDecision.ensures.value; line_after = rw c.in-NoDecision.is c.append-in-NoDecision.ensures.line_after }
 
 pub returns-in-Error : goal.returns-in-Error
 unfolding word_text
 returns-in-Error c =
-    let whole = rw c.in-Error.is (c.append-in-Error.ensures.value, c.append-in-Error.ensures.line_after) in record { value = whole.0; line_after = whole.1 }
+    record { value = rw c.in-Error.is c.append-in-Error.ensures.value; line_after = rw c.in-Error.is c.append-in-Error.ensures.line_after }

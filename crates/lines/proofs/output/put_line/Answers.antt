@@ -6,11 +6,11 @@ use Rattle.lines.proofs.output.put_line.Goals as goal
 
 pub slice_bounds-line-end : goal.slice_bounds-line-end
 slice_bounds-line-end c =
-    front_within c.compose-length.new.0 _ c.compose-length.result c.compose-length.ensures
+    front_within c.compose-length.new.line _ c.compose-length.result c.compose-length.ensures
 
 pub slice_bounds-paste-end : goal.slice_bounds-paste-end
 slice_bounds-paste-end c =
-    front_length c.compose-length.new.0 _ c.compose-length.result c.compose-length.ensures
+    front_length c.compose-length.new.line _ c.compose-length.result c.compose-length.ensures
 
 pub overflow_add-result : goal.overflow_add-result
 overflow_add-result c =
