@@ -25,7 +25,7 @@ overflow_add-result c =
 pub returns-in-At : goal.returns-in-At
 returns-in-At c =
     let found : Plain c.args.line.now c.args.at c.in-At.end = plain_string c.args.line.now c.args.at (sym c.requires ∙ c.in-At.is) in
-    plain_part c.args.line.now c.args.at (found) c.args.longest c.if-longest-gt-TEXT.false c.if-end-at-gt-TEXT.false
+    plain_part c.args.line.now c.args.at found c.args.longest (omega arith) (omega arith)
 
 pub returns-else-c-gt-TEXT : goal.returns-else-c-gt-TEXT
 returns-else-c-gt-TEXT c =
