@@ -1,4 +1,4 @@
-//! Links the static library that `rt staticlib mqtt_acl` writes, or the libmqtt_acl.a of
+//! Links the static library that `bin/build mqtt_acl` writes, or the libmqtt_acl.a of
 //! the folder MQTT_ACL_LIB.
 
 use std::path::PathBuf;

@@ -10,8 +10,6 @@ use native.Mathlib.Nat.{mul-le-mul_left}
 use native.Mathlib.Omega.{arith}
 use borrow.Author.Tests.{eq-eqb, lt-ltb, le-ltb, ltb-true, ltb-false, leb-true}
 use borrow.Rule.Slice.PartMut.{mid_of, put_mid, Post-is, mid_len, put_same, same_len_mid}
-use denote.Enum.Declared.{tag_of}
-use types.Run.{OneOf, miss}
 use lib.Dec.{ltb, leb}
 use lib.ListN.{length, take, drop, replicate, length-take, length-drop, length-append, length-replicate}
 use lib.Seq.{length-take-le, take-append-le, take_at, drop_at, take-take}
@@ -34,7 +32,6 @@ use Rattle.events.specs.declared.FilledTopic.TheVariants.{Static, TooLong, Filte
 use Rattle.events.specs.declared.Table.{Table}
 use Rattle.events.specs.declared.Table.TheVariants.{Filters, Eqs, Notes}
 use Rattle.events.specs.declared.PushedAll.TheVariants.{Used, Full as AllFull}
-use Rattle.events.specs.contracts.FilledTopic as topics
 
 -- ---- a name that was given, by the length that it is said to have
 
@@ -99,13 +96,14 @@ pushes_filter rule text id used part v e h =
 -- ---- the row that a filled topic is
 
 -- neither a static topic nor one over the limit is a row
-pub no_topic : (table : Table) (rule session : ℕ) (id text : List ℕ) (t : FilledTopic) → OneOf (0 ∷ 1 ∷ []) (tag_of topics.the_type t)
+pub no_topic : (table : Table) (rule session : ℕ) (id text : List ℕ) (t : FilledTopic) → ((n : ℕ) → t ≡ Filter n → ⊥)
+    → ((n : ℕ) → t ≡ Eq n → ⊥)
     → topic_bytes table rule session id t text ≡ none
 unfolding topic_bytes
-no_topic table rule session id text Static h = refl
-no_topic table rule session id text TooLong h = refl
-no_topic table rule session id text (Filter n) h = absurd (miss (0 ∷ 1 ∷ []) 2 tt h)
-no_topic table rule session id text (Eq n) h = absurd (miss (0 ∷ 1 ∷ []) 3 tt h)
+no_topic table rule session id text Static f e = refl
+no_topic table rule session id text TooLong f e = refl
+no_topic table rule session id text (Filter n) f e = absurd (f n refl)
+no_topic table rule session id text (Eq n) f e = absurd (e n refl)
 
 module _ (table : Table) (rule session : ℕ) (id text : List ℕ) {topic : FilledTopic} {n : ℕ} where
   pub filter_topic : topic ≡ Filter n → topic_bytes table rule session id topic text ≡ filter_in table rule session id (take n text)

@@ -8,8 +8,6 @@ use mathlib.Core.Option
 use mathlib.Core.Option.{Option, none, some, bind}
 use native.Mathlib.Omega.{arith}
 use borrow.Author.Tests.{le-leb, lt-leb, ltb-true, ltb-false}
-use denote.Enum.Declared.{tag_of}
-use types.Run.{OneOf, miss}
 use lib.Dec.{leb, ltb}
 use lib.ListN.{length, take, drop}
 use Rattle.text.proofs.Laws.{or_split, written-take}
@@ -40,8 +38,6 @@ use Rattle.rule.proofs.RuleLaws.{Stands, value-stands}
 use Rattle.rule.proofs.IdentityLaws.{Stands as TextStands, Listed as OrNone, unlisted, listed as is-listed}
 use Rattle.rule.proofs.StandsLaws.{fills_topic}
 use Rattle.rule.proofs.FourthLaws.{topic_at_stands, topic_under, bound, mapped, array-value, FourthIs, fourth_is}
-use Rattle.rule.specs.contracts.Topic as topic
-use Rattle.events.specs.contracts.FilledTopic as filled-topic
 use Rattle.store.specs.Store.{over}
 use Rattle.events.specs.Templates.{first_of, first_in, first_topic, next_topic, if_template, template_at, filled_as, topic_filling, topic_filled, filled_template, filled_from, over_filled}
 use Rattle.events.specs.declared.FilledTopic.{FilledTopic}
@@ -121,13 +117,14 @@ module _ (line buffer id : List ℕ) (name : Option (List ℕ)) where
   fills_template at false p e is t w a = let f = fills_by_lem at (sym e ∙ is) in (a ∙ (ap (filled_as false) t ∙ f.0), w ∙ f.1)
 
   -- where no template stands
-  pub fills_none : (at : ℕ) (t : Topic) → t ≡ topic_answer (bind (value_of line at) topic_of) → OneOf (0 ∷ 2 ∷ 4 ∷ []) (tag_of topic.the_type t) → FillsTopic at Static buffer
+  pub fills_none : (at : ℕ) (t : Topic) → t ≡ topic_answer (bind (value_of line at) topic_of)
+      → ((p : ℕ) → t ≡ Template p → ⊥) → ((p : ℕ) → t ≡ EqTemplate p → ⊥) → FillsTopic at Static buffer
   unfolding fills_by leaves_by
-  fills_none at (Filter p) e h = fills_by_lem at (sym e)
-  fills_none at (Template p) e h = absurd (miss (0 ∷ 2 ∷ 4 ∷ []) 1 tt h)
-  fills_none at (Eq p) e h = fills_by_lem at (sym e)
-  fills_none at (EqTemplate p) e h = absurd (miss (0 ∷ 2 ∷ 4 ∷ []) 3 tt h)
-  fills_none at Bad e h = fills_by_lem at (sym e)
+  fills_none at (Filter p) e m q = fills_by_lem at (sym e)
+  fills_none at (Template p) e m q = absurd (m p refl)
+  fills_none at (Eq p) e m q = fills_by_lem at (sym e)
+  fills_none at (EqTemplate p) e m q = absurd (q p refl)
+  fills_none at Bad e m q = fills_by_lem at (sym e)
 
 -- ---- the topics of a rule that was read
 
@@ -268,10 +265,10 @@ pub over_is : {t : FilledTopic} → t ≡ FillsOver → is_over t ≡ true
 unfolding is_over
 over_is e = ap is_over e
 
-pub over_not : (t : FilledTopic) → OneOf (0 ∷ 2 ∷ 3 ∷ []) (tag_of filled-topic.the_type t) → is_over t ≡ false
+pub over_not : (t : FilledTopic) → (t ≡ FillsOver → ⊥) → is_over t ≡ false
 unfolding is_over
 over_not Static h = refl
-over_not FillsOver h = absurd (miss (0 ∷ 2 ∷ 3 ∷ []) 1 tt h)
+over_not FillsOver h = absurd (h refl)
 over_not (FilterOf n) h = refl
 over_not (EqOf n) h = refl
 

@@ -1,7 +1,7 @@
 // Disconnected and session end: rows go. The rows that go are marked first, then removed through their table's stretch.
 ghost use Rattle.std.specs.Prelude.{◌≡◌, ◌&&◌, ◌++◌, ◌*◌, ◌≤◌, length, drop};
 ghost use Rattle.topic.specs.Topic as filters;
-ghost use Rattle.table.specs.Table.{«some-row»};
+ghost use Rattle.table.specs.Table.{some_row};
 ghost use Rattle.store.specs.View.{view};
 ghost use Rattle.events.specs.Event as event;
 ghost use Rattle.events.specs.Marks as spec;
@@ -31,7 +31,7 @@ fn text_clears(filter: &[u8], note: &[u8]) -> bool
 
 // Is there a note of the session that is a valid filter and that this filter T-matches?
 fn note_clears(notes: &[u8], session: usize, filter: &[u8]) -> bool
-    ensures { result ≡ «some-row» (event.clears session filter.now) (spec.note_rows_in notes.now) }
+    ensures { result ≡ some_row (event.clears session filter.now) (spec.note_rows_in notes.now) }
 {
     let mut at = 0;
     while Counts::NOTE <= notes.len() - at {

@@ -1,6 +1,7 @@
 // Events: connected, disconnected and session end on a store (document 01, Events). An event reads the rule text and writes each table
 // through its own stretch of the store; refused, it leaves every byte as it was.
 #![tactic(auto)]
+
 pub mod connecting;
 pub mod leaving;
 pub mod templates;

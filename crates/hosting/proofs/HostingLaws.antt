@@ -10,8 +10,6 @@ use borrow.Author.Tests.{eq-eqb, ne_eqb, eqb-true, ltb-false}
 use lib.Dec.{eqb, ltb}
 use lib.ListN.{length, take, drop, get_or, length-append, length-map, drop_of_length-le}
 use lib.Seq.{drop-cons}
-use denote.Enum.Declared.{tag_of}
-use types.Run.{OneOf, miss}
 use Rattle.text.specs.Ascii.{ascii}
 use Rattle.text.specs.Text.{same, begins, occurs, replace_from, replace}
 use Rattle.text.proofs.Laws.{and_split, or_split, isnt, same_itself, begins-take}
@@ -29,7 +27,6 @@ use Rattle.rule.specs.Places.{value_of, topic_answer, placed_topic}
 use Rattle.rule.specs.declared.Topic.{Topic}
 use Rattle.rule.specs.declared.Topic.TheVariants.{Filter, Template, Eq, EqTemplate, Bad}
 use Rattle.rule.specs.Fill.{or_nothing, fill}
-use Rattle.rule.specs.contracts.Topic as topic
 use Rattle.rule.specs.RuleText.{Filled, read_rule, rule_on, rules_of, listed, filled_topics, filled_rules, filled, of_kind}
 use Rattle.store.specs.Store.{over, View, FilterRow, EqRow, NoteRow, same_filter, same_eq, same_note}
 use Rattle.store.specs.View.{view}
@@ -283,13 +280,13 @@ count_small false (EqTemplate p) = omega arith
 count_small eq Bad = omega arith
 
 -- a topic of another kind
-pub count_other : (eq : Bool) (t : Topic) → OneOf (0 ∷ 2 ∷ 4 ∷ []) (tag_of topic.the_type t) → 0 ≡ count_of eq t
+pub count_other : (eq : Bool) (t : Topic) → ((p : ℕ) → t ≡ Template p → ⊥) → ((p : ℕ) → t ≡ EqTemplate p → ⊥) → 0 ≡ count_of eq t
 unfolding count_of
-count_other eq (Filter p) h = refl
-count_other eq (Template p) h = absurd (miss (0 ∷ 2 ∷ 4 ∷ []) 1 tt h)
-count_other eq (Eq p) h = refl
-count_other eq (EqTemplate p) h = absurd (miss (0 ∷ 2 ∷ 4 ∷ []) 3 tt h)
-count_other eq Bad h = refl
+count_other eq (Filter p) m q = refl
+count_other eq (Template p) m q = absurd (m p refl)
+count_other eq (Eq p) m q = refl
+count_other eq (EqTemplate p) m q = absurd (q p refl)
+count_other eq Bad m q = refl
 
 -- the loop over the lines
 abbrev pub OnLines : Bool → List ℕ → ℕ → ℕ → Type 0

@@ -1,13 +1,12 @@
 -- What the answer of `check` says of a line. Assumes nothing.
 use Prim.Native.Nat.{ℕ}
 use mathlib.Core.Path.{◌≡◌, refl, sym, ap}
-use mathlib.Core.Bool.{Bool, true, false}
+use mathlib.Core.Bool.{true, false}
 use mathlib.Core.Option.{Option, none, some}
 use native.Mathlib.Omega.{arith}
 use lib.Dec.{leb}
 use Rattle.json_text.specs.Json.{Json, longest}
 use Rattle.json_text.specs.Access.{checked, is_document, document_within}
-use Rattle.json_text.specs.declared.Checked.{Checked}
 use Rattle.json_text.specs.declared.Checked.TheVariants.{Invalid, Valid}
 
 pub none_document : (o : Option Json) (most : ℕ) → checked o ≡ Invalid → (false ≡ is_document o) × (false ≡ document_within most o)

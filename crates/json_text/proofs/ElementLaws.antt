@@ -1,5 +1,5 @@
 -- Laws for readers that go over a line in one pass: elements one by one, an array from its elements, a line from its value. Assumes nothing.
-use Prim.Native.Nat.{ℕ, suc, ◌+◌, ◌<◌, max}
+use Prim.Native.Nat.{ℕ, suc, ◌+◌, max}
 use native.Mathlib.Omega.{arith}
 use mathlib.Core.Path.{◌≡◌, refl, sym, ap, ◌∙◌}
 use mathlib.Core.Bool.{Bool, true, false, cond}

@@ -3,17 +3,16 @@ use Prim.Native.Nat.{ℕ, zero, suc, ◌+◌, ◌-◌, ◌*◌, ◌≤◌, ◌<�
 use native.Mathlib.Omega.{arith}
 use mathlib.Core.Path.{◌≡◌, refl, sym, ap, ◌∙◌}
 use mathlib.Core.Bool.{Bool, true, false, ◌&&◌, ◌||◌, not, cond, and-false}
-use mathlib.Core.List.{List, [], ◌∷◌}
+use mathlib.Core.List.{List, []}
 use lib.Dec.{eqb, leb, ltb}
 use Rattle.text.proofs.Laws.{and_split}
-use lib.ListN.{length, get_or, drop, drop_of_length-le, length-drop}
-use lib.Seq.{drop-drop}
-use borrow.Author.Tests.{lt-ltb, le-ltb, ltb-true, ltb-false, leb-true, leb-false, le-leb, lt-leb, eqb-true, eqb-false, eq-eqb, ne_eqb, not-true}
+use lib.ListN.{length, get_or, drop, length-drop}
+use borrow.Author.Tests.{lt-ltb, le-ltb, ltb-true, ltb-false, leb-true, eqb-true, eqb-false, eq-eqb, ne_eqb, not-true}
 use Rattle.json_text.specs.Utf8.{no_byte, byte_at, between, sequence, utf8}
 use Rattle.json_text.specs.Strings.{quote, backslash, hex_digit, no_hex, hex4, short_escape, low_surrogate, unicode, escape, raw_piece, is_plain, piece_of}
 use Rattle.json_text.specs.declared.Piece.{Piece}
 use Rattle.json_text.specs.declared.Piece.TheVariants.{Closes, Raw, Escaped, Bad}
-use Rattle.json_text.proofs.Utf8Laws.{byte_here, byte_first, byte_past, within, under, over, within_told, sequence_size, sequence_ascii, sequence_past, utf8_by, utf8_size}
+use Rattle.json_text.proofs.Utf8Laws.{byte_first, byte_past, within_told, sequence_size, sequence_ascii, sequence_past, utf8_by, utf8_size}
 
 -- a hexadecimal digit, by its tests
 pub hex_by :

@@ -68,9 +68,8 @@ kind_by b d s a o l k = λ i. cond (d i) Number (cond (s i) Text (cond (a i) Arr
 
 -- a byte that is no quote, bracket or blank
 pub kind_others : (b : ℕ) {digit letter : Bool} → between 0x30 0x39 b ≡ digit → between 0x61 0x7a b ≡ letter
-    → (((Unit {0} × (b ≡ 0x22 → ⊥)) × (b ≡ 0x5b → ⊥)) × (b ≡ 0x7b → ⊥)) × ((b ≡ 0x09) ⊎ ((b ≡ 0x0d) ⊎ (b ≡ 0x20)) → ⊥)
-    → kind_of b ≡ cond digit Number (cond letter Word Other)
-kind_others b d l n = kind_by b d (ne_eqb b 0x22 n.0.0.0.1) (ne_eqb b 0x5b n.0.0.1) (ne_eqb b 0x7b n.0.1) l (no_blank b n.1)
+    → (b ≡ 0x22 → ⊥) → (b ≡ 0x5b → ⊥) → (b ≡ 0x7b → ⊥) → is_blank b ≡ false → kind_of b ≡ cond digit Number (cond letter Word Other)
+kind_others b d l string array object blank = kind_by b d (ne_eqb b 0x22 string) (ne_eqb b 0x5b array) (ne_eqb b 0x7b object) l blank
 
 -- ---- blanks
 

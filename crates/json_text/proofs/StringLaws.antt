@@ -2,22 +2,21 @@
 use Prim.Native.Nat.{ℕ, zero, suc, ◌+◌, ◌-◌, ◌≤◌, ◌<◌}
 use native.Mathlib.Nat.{zero-add, add_assoc}
 use native.Mathlib.Omega.{arith}
-use mathlib.Core.Path.{◌≡◌, refl, sym, ap, ap₂, ◌∙◌}
+use mathlib.Core.Path.{◌≡◌, refl, sym, ap, ◌∙◌}
 use mathlib.Core.Bool.{Bool, true, false, ◌&&◌, and_assoc, and-false}
-use mathlib.Core.List.{List, [], ◌∷◌, ◌++◌, append_assoc, append-nil}
+use mathlib.Core.List.{List, [], ◌∷◌, ◌++◌, append_assoc}
 use mathlib.Core.Option.{Option, none, some, none-ne-some, some-injective}
 use lib.Dec.{eqb, ltb, eqb-zero-suc, eqb-suc-suc}
-use lib.ListN.{length, get_or, take, drop, length-append, length-drop, drop_of_length-le}
+use lib.ListN.{length, get_or, take, drop, length-append, drop_of_length-le}
 use lib.Seq.{drop-cons, drop-drop, length-take-le}
 use borrow.Author.Tests.{eq-eqb, ne_eqb, eqb-true, eqb-false, ltb-true, ltb-false, le-leb, lt-leb}
 use Rattle.text.specs.Text.{same, begins}
-use Rattle.json_text.specs.Utf8.{byte_at, utf8}
+use Rattle.json_text.specs.Utf8.{utf8}
 use Rattle.json_text.specs.Strings.{quote, Decoded, piece_of, grown, string_from, string_at}
 use Rattle.text.specs.Text.{pasted}
 use Rattle.text.proofs.Laws.{Wrote, wrote_none, wrote_lengths, wrote_part, wrote_all, pasted_fits, written_too_long}
 use Rattle.json_text.specs.Access.{scanned, string_is, Fits, copied, decoded_into}
 use Rattle.json_text.specs.declared.Copied.TheVariants.{Length, TooLong, NoText}
-use Rattle.json_text.specs.declared.Piece.{Piece}
 use Rattle.json_text.specs.declared.Piece.TheVariants.{Closes, Raw, Escaped, Bad}
 use Rattle.json_text.specs.declared.Scanned.{Scanned}
 use Rattle.json_text.specs.declared.Scanned.TheVariants.{Text, Bad as BadText}
@@ -58,6 +57,7 @@ skipped (suc k) (b ∷ s) = ap (grown []) (skipped k s) ∙ grown-ahead [] k (st
 -- a string from a place on, by the piece that stands there
 module _ (line : List ℕ) (i : ℕ) (h : i < length line) where
   rest_here : (n : ℕ) → 1 ≤ n → (t : List ℕ) → grown t (string_from (n - 1) (drop (suc i) line)) ≡ ahead t n (string_from zero (drop (i + n) line))
+  rest_here zero k t = elim k [ ]
   rest_here (suc n) k t =
       ap (grown t) (ap (λ (m : ℕ). string_from m (drop (suc i) line)) less ∙ (skipped n (drop (suc i) line) ∙ ap (λ (l : List ℕ). ahead [] n (string_from zero l)) (drop-drop n (suc i) line ∙ ap (λ (m : ℕ). drop m line) next)))
       ∙ grown-ahead t n (string_from zero (drop (i + suc n) line))

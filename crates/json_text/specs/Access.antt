@@ -1,14 +1,13 @@
 -- What the accessors give: each is what reading from its place gives, whatever stands there.
-use Rattle.std.specs.Prelude.{ℕ, suc, ◌+◌, ◌≤◌, max, Bool, true, false, cond, List, [], ◌∷◌, leb, length}
-use Rattle.std.proofs.Math.Option.{Option, none, some, bind}
+use Rattle.std.specs.Prelude.{ℕ, suc, ◌+◌, ◌≤◌, max, Bool, true, false, cond, List, leb, length}
+use Rattle.std.proofs.Math.Option.{Option, none, some}
 use Rattle.json_text.specs.Utf8.{byte_at}
 use Rattle.text.specs.Text.{same, written}
 use Rattle.json_text.specs.Strings.{Decoded, string_at}
-use Rattle.json_text.specs.Json.{Json, null, bool, number, text, array, object, Elements, no_element, element, Members, no_member, member, Read, is_at, skip_blanks, kind_of, number_at, word_at, text_at, read_as, items_at, element_at, name_at, member_at, array_at, object_at, value_at, depth_limit, line_value, longest}
+use Rattle.json_text.specs.Json.{Json, null, bool, number, text, array, object, Elements, no_element, element, Members, no_member, member, Read, is_at, skip_blanks, kind_of, number_at, word_at, read_as, items_at, element_at, name_at, member_at, array_at, object_at, value_at, depth_limit, longest}
 use Rattle.json_text.specs.declared.Checked.{Checked}
 use Rattle.json_text.specs.declared.Checked.TheVariants.{Invalid, Valid}
 use Rattle.json_text.specs.declared.Kind.{Kind}
-use Rattle.json_text.specs.declared.Cursor.{Cursor}
 use Rattle.json_text.specs.declared.Step.{Step}
 use Rattle.json_text.specs.declared.Step.TheVariants.{Next, Bad}
 use Rattle.json_text.specs.declared.Scanned.{Scanned}

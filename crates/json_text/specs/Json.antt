@@ -5,7 +5,7 @@ use Rattle.std.proofs.Math.Option.{Option, none, some, bind}
 use Rattle.text.specs.Ascii.{ascii}
 use Rattle.text.specs.Text.{begins}
 use Rattle.json_text.specs.Utf8.{byte_at, between}
-use Rattle.json_text.specs.Strings.{quote, Decoded, string_at}
+use Rattle.json_text.specs.Strings.{quote, string_at}
 use Rattle.json_text.specs.declared.Separator.{Separator}
 use Rattle.json_text.specs.declared.Separator.TheVariants.{Close, Comma, Neither}
 use Rattle.json_text.specs.declared.Kind.{Kind}

@@ -1,5 +1,5 @@
 -- The lines of a text: document 01, JSON line.
-use Rattle.std.specs.Prelude.{ℕ, suc, ◌+◌, min, Bool, true, false, cond, List, [], ◌∷◌, eqb, ltb, length, drop}
+use Rattle.std.specs.Prelude.{ℕ, suc, ◌+◌, min, cond, List, [], ◌∷◌, eqb, ltb, length, drop}
 
 abbrev pub lf : ℕ
 lf = 10

@@ -1,5 +1,5 @@
 -- Strings of a line, with their escapes: RFC 8259, section 7; document 01, "UTF-8 is checked; lone surrogates are refused".
-use Rattle.std.specs.Prelude.{ℕ, zero, suc, ◌+◌, ◌-◌, ◌*◌, Bool, true, false, ◌&&◌, ◌||◌, not, cond, List, [], ◌∷◌, ◌++◌, eqb, leb, ltb, take, drop}
+use Rattle.std.specs.Prelude.{ℕ, zero, suc, ◌+◌, ◌-◌, ◌*◌, Bool, ◌&&◌, ◌||◌, not, cond, List, [], ◌∷◌, ◌++◌, eqb, leb, ltb, take, drop}
 use Rattle.std.proofs.Math.Option.{Option, none, some}
 use Rattle.json_text.specs.Utf8.{byte_at, between, sequence, utf8}
 use Rattle.json_text.specs.declared.Piece.{Piece}

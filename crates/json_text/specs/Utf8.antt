@@ -1,5 +1,5 @@
 -- UTF-8 as RFC 3629 has it: no overlong form, no surrogate, nothing above U+10FFFF.
-use Rattle.std.specs.Prelude.{ℕ, ◌+◌, ◌/◌, ◌%◌, Bool, true, false, ◌&&◌, ◌||◌, cond, List, [], ◌∷◌, eqb, leb, ltb, get_or}
+use Rattle.std.specs.Prelude.{ℕ, ◌+◌, ◌/◌, ◌%◌, Bool, ◌&&◌, ◌||◌, cond, List, [], ◌∷◌, eqb, leb, ltb, get_or}
 
 -- no byte: what stands past the end
 abbrev pub no_byte : ℕ

@@ -1,6 +1,7 @@
 // One line of JSON, read without a copy: what stands where in the line (document 01, JSON line; RFC 8259). Callers check a line
 // once and then go by places in it; a place is an offset, and every function answers for every place.
 #![tactic(auto)]
+
 pub mod access;
 pub mod splitting;
 pub mod strings;

@@ -36,8 +36,7 @@ fn subscribe_number(answer: SubscribeAnswer) -> u64
 }
 
 // May the client subscribe to the topic, by its rules?
-#[unsafe(no_mangle)]
-pub extern "C" fn mqtt_acl_client_subscribe(
+pub fn mqtt_acl_client_subscribe(
     superuser: u8,
     id: &[u8],
     has_name: u8,
@@ -79,8 +78,7 @@ fn publish_number(answer: PublishAnswer) -> u64
 }
 
 // May the client publish to the topic, by its rules? A refusal by a rule carries the disconnect flag.
-#[unsafe(no_mangle)]
-pub extern "C" fn mqtt_acl_client_publish(
+pub fn mqtt_acl_client_publish(
     superuser: u8,
     id: &[u8],
     has_name: u8,
@@ -130,8 +128,7 @@ fn expiry_number(answer: ExpiryAnswer) -> u64
 }
 
 // Are the credentials expired now, at these seconds and nanoseconds?
-#[unsafe(no_mangle)]
-pub extern "C" fn mqtt_acl_expired(
+pub fn mqtt_acl_expired(
     has_expiry: u8,
     expiry_seconds: u64,
     expiry_nanoseconds: u64,

@@ -9,16 +9,14 @@ use crate::yes;
 use hosting::{Used, count_templates, plain_name, used_rows};
 
 // Does the text fill a template without a level or a wildcard more, and not begin with `$`?
-#[unsafe(no_mangle)]
-pub extern "C" fn mqtt_acl_plain_name(name: &[u8]) -> u8
+pub fn mqtt_acl_plain_name(name: &[u8]) -> u8
     ensures { result ≡ rules.yes (spec.plain_name name.now) }
 {
     yes(plain_name(name))
 }
 
 // The filter templates of a rule text: a client asks for so many filter rows and notes at the most.
-#[unsafe(no_mangle)]
-pub extern "C" fn mqtt_acl_filter_templates(rules: &[u8]) -> usize
+pub fn mqtt_acl_filter_templates(rules: &[u8]) -> usize
     ensures { result ≡ (spec.templates rules.now).filters }
 {
     let found = count_templates(rules);
@@ -26,8 +24,7 @@ pub extern "C" fn mqtt_acl_filter_templates(rules: &[u8]) -> usize
 }
 
 // The eq templates of a rule text: a client asks for so many eq rows at the most.
-#[unsafe(no_mangle)]
-pub extern "C" fn mqtt_acl_eq_templates(rules: &[u8]) -> usize
+pub fn mqtt_acl_eq_templates(rules: &[u8]) -> usize
     ensures { result ≡ (spec.templates rules.now).eqs }
 {
     let found = count_templates(rules);
@@ -43,8 +40,7 @@ fn rows_number(filters: usize, eqs: usize, notes: usize) -> u64
 }
 
 // The used rows of a store: filter rows, 65,536 times eq rows and 4,294,967,296 times note rows; 2^64-1 if it is not as laid out.
-#[unsafe(no_mangle)]
-pub extern "C" fn mqtt_acl_used_rows(store: &[u8]) -> u64
+pub fn mqtt_acl_used_rows(store: &[u8]) -> u64
     ensures { result ≡ hosts.used_number (spec.used_in (view store.now)) }
 {
     let Used::Rows(filters, eqs, notes) = used_rows(store) else {

@@ -50,56 +50,49 @@ fn yes(is: bool) -> u8
 }
 
 // The version of the library: 10,000 times its first number, 100 times its second, and its third.
-#[unsafe(no_mangle)]
-pub extern "C" fn mqtt_acl_version() -> u32
+pub fn mqtt_acl_version() -> u32
     ensures { result ≡ rules.version }
 {
     300
 }
 
 // Is the text a valid filter?
-#[unsafe(no_mangle)]
-pub extern "C" fn mqtt_acl_valid_filter(text: &[u8]) -> u8
+pub fn mqtt_acl_valid_filter(text: &[u8]) -> u8
     ensures { result ≡ rules.yes (spec.valid_filter text.now) }
 {
     yes(topic::valid_filter(text))
 }
 
 // Tree match T: does the filter take the checked text?
-#[unsafe(no_mangle)]
-pub extern "C" fn mqtt_acl_tree_match(filter: &[u8], text: &[u8]) -> u8
+pub fn mqtt_acl_tree_match(filter: &[u8], text: &[u8]) -> u8
     ensures { result ≡ rules.yes (spec.tree_match filter.now text.now) }
 {
     yes(topic::tree_match(filter, text))
 }
 
 // Plain match P: does the filter take the checked text?
-#[unsafe(no_mangle)]
-pub extern "C" fn mqtt_acl_plain_match(filter: &[u8], text: &[u8]) -> u8
+pub fn mqtt_acl_plain_match(filter: &[u8], text: &[u8]) -> u8
     ensures { result ≡ rules.yes (spec.plain_match filter.now text.now) }
 {
     yes(topic::plain_match(filter, text))
 }
 
 // Is the line one of document 01's JSON documents?
-#[unsafe(no_mangle)]
-pub extern "C" fn mqtt_acl_is_document(line: &[u8]) -> u8
+pub fn mqtt_acl_is_document(line: &[u8]) -> u8
     ensures { result ≡ rules.yes (is_document (line_value line.now)) }
 {
     yes(json_text::values::is_document(line))
 }
 
 // And one whose decoded strings, member names included, have at most this many bytes?
-#[unsafe(no_mangle)]
-pub extern "C" fn mqtt_acl_is_document_within(line: &[u8], most: usize) -> u8
+pub fn mqtt_acl_is_document_within(line: &[u8], most: usize) -> u8
     ensures { result ≡ rules.yes (document_within most (line_value line.now)) }
 {
     yes(json_text::values::is_document_within(line, most))
 }
 
 // The number of document 01 for a rule line that is refused, 0 for a rule.
-#[unsafe(no_mangle)]
-pub extern "C" fn mqtt_acl_rule_refusal(line: &[u8]) -> u8
+pub fn mqtt_acl_rule_refusal(line: &[u8]) -> u8
     ensures { result ≡ rules.refusal_of line.now }
 {
     match read_rule(line) {
@@ -143,8 +136,7 @@ fn identity_number(answer: Identity) -> u8
 
 // Do the users that the line's rule lists agree with the client? 0: they differ; 1: they agree; 2: they agree, with the superuser
 // flag; 3: the line is no rule. An optional text, and the protocol, counts where its flag is true.
-#[unsafe(no_mangle)]
-pub extern "C" fn mqtt_acl_identity(
+pub fn mqtt_acl_identity(
     line: &[u8],
     id: &[u8],
     has_name: u8,
@@ -187,8 +179,7 @@ fn opened_number(answer: Opened) -> u32
 }
 
 // Opens a store for a rule text: 0 done, else the number of document 01 plus 256 times the line. Refused, the store is unchanged.
-#[unsafe(no_mangle)]
-pub extern "C" fn mqtt_acl_open(
+pub fn mqtt_acl_open(
     store: &mut [u8],
     bytes: u64,
     filters: u64,
@@ -212,8 +203,7 @@ fn event_number(answer: EventAnswer) -> u8
 }
 
 // A client has connected: 0 done, else the number of document 01, and the store is unchanged. The name counts where its flag is true.
-#[unsafe(no_mangle)]
-pub extern "C" fn mqtt_acl_connected(
+pub fn mqtt_acl_connected(
     store: &mut [u8],
     session: u64,
     id: &[u8],
@@ -227,8 +217,7 @@ pub extern "C" fn mqtt_acl_connected(
 }
 
 // A client has disconnected: answers as above.
-#[unsafe(no_mangle)]
-pub extern "C" fn mqtt_acl_disconnected(store: &mut [u8], session: u64, id: &[u8]) -> u8
+pub fn mqtt_acl_disconnected(store: &mut [u8], session: u64, id: &[u8]) -> u8
     ensures value { result ≡ answers.event_number (event.cause (event.disconnected session id.now) (view store.old)) }
     ensures store_after { store.new ≡ event.after (event.disconnected session id.now) store.old }
 {
@@ -236,8 +225,7 @@ pub extern "C" fn mqtt_acl_disconnected(store: &mut [u8], session: u64, id: &[u8
 }
 
 // A session has ended: answers as above.
-#[unsafe(no_mangle)]
-pub extern "C" fn mqtt_acl_ended(store: &mut [u8], session: u64) -> u8
+pub fn mqtt_acl_ended(store: &mut [u8], session: u64) -> u8
     ensures value { result ≡ answers.event_number (event.cause (event.ended session) (view store.old)) }
     ensures store_after { store.new ≡ event.after (event.ended session) store.old }
 {
@@ -271,8 +259,7 @@ fn connect_number(answer: ConnectAnswer) -> u32
 
 // May the client connect? The answer is `packed` of specs/Answers.antt: what is answered below 16, the rule 16 times. An optional text counts
 // where its flag is true.
-#[unsafe(no_mangle)]
-pub extern "C" fn mqtt_acl_connect(
+pub fn mqtt_acl_connect(
     store: &[u8],
     earlier: u64,
     id: &[u8],
@@ -313,8 +300,7 @@ fn subscribe_number(answer: SubscribeAnswer) -> u32
 }
 
 // May the client subscribe to the topic? The protocol counts where its flag is true.
-#[unsafe(no_mangle)]
-pub extern "C" fn mqtt_acl_subscribe(
+pub fn mqtt_acl_subscribe(
     store: &[u8],
     earlier: u64,
     id: &[u8],
@@ -365,8 +351,7 @@ fn publish_number(answer: PublishAnswer) -> u32
 }
 
 // May the client publish to the topic? A refusal by a rule carries the disconnect flag.
-#[unsafe(no_mangle)]
-pub extern "C" fn mqtt_acl_publish(
+pub fn mqtt_acl_publish(
     store: &[u8],
     earlier: u64,
     id: &[u8],

@@ -16,16 +16,14 @@ fn between(n: u64, least: u64, most: u64) -> bool
 }
 
 // What is answered: 0 to 15.
-#[unsafe(no_mangle)]
-pub extern "C" fn mqtt_acl_answer_what(answer: u64) -> u8
+pub fn mqtt_acl_answer_what(answer: u64) -> u8
     ensures { result ≡ (parts answer).what }
 {
     (answer % 16) as u8
 }
 
 // The deciding rule, from 1; 0 where none decided.
-#[unsafe(no_mangle)]
-pub extern "C" fn mqtt_acl_answer_rule(answer: u64) -> u64
+pub fn mqtt_acl_answer_rule(answer: u64) -> u64
     ensures { result ≡ (parts answer).rule }
 {
     if between(answer % 16, 2, 11) {
@@ -35,8 +33,7 @@ pub extern "C" fn mqtt_acl_answer_rule(answer: u64) -> u64
 }
 
 // The earlier code that is kept; 0 where none is.
-#[unsafe(no_mangle)]
-pub extern "C" fn mqtt_acl_answer_code(answer: u64) -> u64
+pub fn mqtt_acl_answer_code(answer: u64) -> u64
     ensures { result ≡ (parts answer).code }
 {
     if answer % 16 == 1 {
@@ -46,8 +43,7 @@ pub extern "C" fn mqtt_acl_answer_code(answer: u64) -> u64
 }
 
 // The number of document 01 by which a call is refused; 0 where it isn't.
-#[unsafe(no_mangle)]
-pub extern "C" fn mqtt_acl_answer_refusal(answer: u64) -> u8
+pub fn mqtt_acl_answer_refusal(answer: u64) -> u8
     ensures { result ≡ (parts answer).refusal }
 {
     if answer % 16 == 0 {
@@ -57,8 +53,7 @@ pub extern "C" fn mqtt_acl_answer_refusal(answer: u64) -> u8
 }
 
 // Its line; 0 where it has none.
-#[unsafe(no_mangle)]
-pub extern "C" fn mqtt_acl_answer_line(answer: u64) -> u64
+pub fn mqtt_acl_answer_line(answer: u64) -> u64
     ensures { result ≡ (parts answer).line }
 {
     if answer % 16 == 0 {
@@ -68,8 +63,7 @@ pub extern "C" fn mqtt_acl_answer_line(answer: u64) -> u64
 }
 
 // The QoS of an allowed subscribe; 0 of anything else.
-#[unsafe(no_mangle)]
-pub extern "C" fn mqtt_acl_answer_qos(answer: u64) -> u8
+pub fn mqtt_acl_answer_qos(answer: u64) -> u8
     ensures { result ≡ (parts answer).qos }
 {
     match answer % 16 {
@@ -80,40 +74,35 @@ pub extern "C" fn mqtt_acl_answer_qos(answer: u64) -> u8
 }
 
 // Does an allowed connect carry the superuser flag?
-#[unsafe(no_mangle)]
-pub extern "C" fn mqtt_acl_answer_superuser(answer: u64) -> u8
+pub fn mqtt_acl_answer_superuser(answer: u64) -> u8
     ensures { result ≡ yes (parts answer).superuser }
 {
     yes(answer % 16 == 3)
 }
 
 // Does a refused publish carry the disconnect flag?
-#[unsafe(no_mangle)]
-pub extern "C" fn mqtt_acl_answer_disconnect(answer: u64) -> u8
+pub fn mqtt_acl_answer_disconnect(answer: u64) -> u8
     ensures { result ≡ yes (parts answer).disconnect }
 {
     yes(answer % 16 == 10)
 }
 
 // Does the answer allow?
-#[unsafe(no_mangle)]
-pub extern "C" fn mqtt_acl_answer_allows(answer: u64) -> u8
+pub fn mqtt_acl_answer_allows(answer: u64) -> u8
     ensures { result ≡ yes (parts answer).allows }
 {
     yes(between(answer % 16, 2, 7))
 }
 
 // The number by which opening is refused; 0 where it is done.
-#[unsafe(no_mangle)]
-pub extern "C" fn mqtt_acl_open_refusal(answer: u32) -> u8
+pub fn mqtt_acl_open_refusal(answer: u32) -> u8
     ensures { result ≡ open_refusal (read_open answer) }
 {
     (answer % 256) as u8
 }
 
 // Its line; 0 where it has none.
-#[unsafe(no_mangle)]
-pub extern "C" fn mqtt_acl_open_line(answer: u32) -> u32
+pub fn mqtt_acl_open_line(answer: u32) -> u32
     ensures { result ≡ open_line (read_open answer) }
 {
     answer / 256

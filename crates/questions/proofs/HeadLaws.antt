@@ -6,8 +6,6 @@ use mathlib.Core.List.{List, [], ◌∷◌}
 use mathlib.Core.Option.{Option, none, some, bind}
 use native.Mathlib.Omega.{arith}
 use borrow.Author.Tests.{lt-ltb, le-ltb}
-use denote.Enum.Declared.{tag_of}
-use types.Run.{OneOf, miss}
 use lib.ListN.{length, take}
 use Rattle.text.specs.Text.{same}
 use Rattle.topic.specs.Topic.{tree_match}
@@ -36,7 +34,6 @@ use Rattle.rule.proofs.DecodeLaws.{Copies, Over}
 use Rattle.rule.proofs.IdentityLaws.{Stands, Listed, unlisted, listed}
 use Rattle.rule.proofs.StandsLaws.{identity_read}
 use Rattle.rule.proofs.FourthLaws.{topic_at_stands}
-use Rattle.rule.specs.contracts.Topic as topic
 use Rattle.store.specs.Store.{over}
 use Rattle.questions.specs.Decision.{static_agrees}
 use Rattle.questions.specs.Parts.{protocol_of, covers_asked, topics_for, head_of, head_at, filter_matches_at, topic_agrees_at}
@@ -80,13 +77,13 @@ agrees_by topic line (EqTemplate p) = false
 agrees_by topic line Bad = false
 
 -- where no topic stands, and at a template
-pub none_agrees : (asked line : List ℕ) (t : Topic) → OneOf (1 ∷ 3 ∷ 4 ∷ []) (tag_of topic.the_type t) → agrees_by asked line t ≡ false
+pub none_agrees : (asked line : List ℕ) (t : Topic) → ((p : ℕ) → t ≡ Filter p → ⊥) → ((p : ℕ) → t ≡ Eq p → ⊥) → agrees_by asked line t ≡ false
 unfolding agrees_by
-none_agrees asked line (Filter p) h = absurd (miss (1 ∷ 3 ∷ 4 ∷ []) 0 tt h)
-none_agrees asked line (Template p) h = refl
-none_agrees asked line (Eq p) h = absurd (miss (1 ∷ 3 ∷ 4 ∷ []) 2 tt h)
-none_agrees asked line (EqTemplate p) h = refl
-none_agrees asked line Bad h = refl
+none_agrees asked line (Filter p) f e = absurd (f p refl)
+none_agrees asked line (Template p) f e = refl
+none_agrees asked line (Eq p) f e = absurd (e p refl)
+none_agrees asked line (EqTemplate p) f e = refl
+none_agrees asked line Bad f e = refl
 
 -- a topic agrees as its place does
 pub topic_by : (asked line : List ℕ) (at : ℕ) {answer : Topic} → topic_answer (bind (value_of line at) topic_of) ≡ answer

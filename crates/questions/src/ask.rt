@@ -55,7 +55,7 @@ fn client_over(
     address: Given,
     addresses: &[u8],
 ) -> bool
-    ensures { result ≡ question.client_over (record { id = id.entry.now; name = given name names.now; password = given password passwords.now; address = given address addresses.now; protocol = none }) }
+    ensures { result ≡ question.client_over (record { id = id.now; name = given name names.now; password = given password passwords.now; address = given address addresses.now; protocol = none }) }
 {
     if ID < id.len() {
         return true;
@@ -85,7 +85,7 @@ fn deciding_on(
     topic: &[u8],
 ) -> Deciding
     requires { shape_of (view store.now) ≡ LaidOut shape }
-    ensures { (v : View) → view store.now ≡ some v → result ≡ spec.deciding_on (record { id = id.entry.now; name = given name names.now; password = given password passwords.now; address = given address addresses.now; protocol = spec.protocol_of protocol }) (spec.wish_of asked topic.now) v }
+    ensures { (v : View) → view store.now ≡ some v → result ≡ spec.deciding_on (record { id = id.now; name = given name names.now; password = given password passwords.now; address = given address addresses.now; protocol = spec.protocol_of protocol }) (spec.wish_of asked topic.now) v }
 {
     let counts = shape.counts;
     let text_end = Counts::HEADER + shape.text;
@@ -124,7 +124,7 @@ pub fn connect(
     addresses: &[u8],
     protocol: u8,
 ) -> ConnectAnswer
-    ensures { answers.connect_says result ≡ decision.ask (question.connect earlier (record { id = id.entry.now; name = given name names.now; password = given password passwords.now; address = given address addresses.now; protocol = some protocol })) store.now }
+    ensures { answers.connect_says result ≡ decision.ask (question.connect earlier (record { id = id.now; name = given name names.now; password = given password passwords.now; address = given address addresses.now; protocol = some protocol })) store.now }
 {
     if client_over(id, name, names, password, passwords, address, addresses) {
         return ConnectAnswer::Refused(Refusal::TooLong);
@@ -177,7 +177,7 @@ pub fn subscribe(
     topic: &[u8],
     qos: u64,
 ) -> SubscribeAnswer
-    ensures { answers.subscribe_says result ≡ decision.ask (question.subscribe earlier (record { id = id.entry.now; name = given name names.now; password = given password passwords.now; address = given address addresses.now; protocol = spec.protocol_of protocol }) topic.now qos) store.now }
+    ensures { answers.subscribe_says result ≡ decision.ask (question.subscribe earlier (record { id = id.now; name = given name names.now; password = given password passwords.now; address = given address addresses.now; protocol = spec.protocol_of protocol }) topic.now qos) store.now }
 {
     if client_over(id, name, names, password, passwords, address, addresses) {
         return SubscribeAnswer::Refused(Refusal::TooLong);
@@ -236,7 +236,7 @@ pub fn publish(
     topic: &[u8],
     disconnect: bool,
 ) -> PublishAnswer
-    ensures { answers.publish_says result ≡ decision.ask (question.publish earlier (record { id = id.entry.now; name = given name names.now; password = given password passwords.now; address = given address addresses.now; protocol = spec.protocol_of protocol }) topic.now disconnect) store.now }
+    ensures { answers.publish_says result ≡ decision.ask (question.publish earlier (record { id = id.now; name = given name names.now; password = given password passwords.now; address = given address addresses.now; protocol = spec.protocol_of protocol }) topic.now disconnect) store.now }
 {
     if client_over(id, name, names, password, passwords, address, addresses) {
         return PublishAnswer::Refused(Refusal::TooLong);

@@ -6,7 +6,7 @@ ghost use Rattle.json_text.specs.Lines.{lines};
 ghost use Rattle.rule.specs.RuleText.{read_rule};
 ghost use Rattle.rule.specs.Front.{item_behind};
 ghost use Rattle.rule.specs.Places.{given};
-ghost use Rattle.table.specs.Table.{«some-row»};
+ghost use Rattle.table.specs.Table.{some_row};
 ghost use Rattle.questions.specs.Decision as decision;
 ghost use Rattle.questions.specs.Parts as spec;
 
@@ -83,7 +83,7 @@ fn head(
     addresses: &[u8],
     protocol: Protocol,
 ) -> Head
-    ensures { result ≡ spec.head_at (record { id = id.entry.now; name = given name names.now; password = given password passwords.now; address = given address addresses.now; protocol = spec.protocol_of protocol }) asked line.now }
+    ensures { result ≡ spec.head_at (record { id = id.now; name = given name names.now; password = given password passwords.now; address = given address addresses.now; protocol = spec.protocol_of protocol }) asked line.now }
 {
     let RuleRead::Rule(rule) = read_rule(line) else {
         return Head::Differs;
@@ -118,7 +118,7 @@ fn front_head(
     protocol: Protocol,
 ) -> HeadRead
     requires { spec.is_rule (read_rule line.now) ≡ true }
-    ensures { spec.WhereHead result (spec.head_at (record { id = id.entry.now; name = given name names.now; password = given password passwords.now; address = given address addresses.now; protocol = spec.protocol_of protocol }) asked line.now) }
+    ensures { spec.WhereHead result (spec.head_at (record { id = id.now; name = given name names.now; password = given password passwords.now; address = given address addresses.now; protocol = spec.protocol_of protocol }) asked line.now) }
 {
     let AccessPassed::Access(allow, at) = access_end(line) else {
         return HeadRead::Unread;
@@ -155,7 +155,7 @@ fn head_of(
     protocol: Protocol,
 ) -> Head
     requires { checked ≡ true → spec.is_rule (read_rule line.now) ≡ true }
-    ensures { result ≡ spec.head_at (record { id = id.entry.now; name = given name names.now; password = given password passwords.now; address = given address addresses.now; protocol = spec.protocol_of protocol }) asked line.now }
+    ensures { result ≡ spec.head_at (record { id = id.now; name = given name names.now; password = given password passwords.now; address = given address addresses.now; protocol = spec.protocol_of protocol }) asked line.now }
 {
     if checked {
         if let HeadRead::Is(known) = front_head(
@@ -276,7 +276,7 @@ fn pass_topic(line: &[u8], at: usize, topic: &[u8], valid: bool) -> TopicPassed
 
 // Is there an eq row of the rule, counted from 0, that is the topic?
 fn eq_row_agrees(eqs: &[u8], rule: usize, topic: &[u8]) -> bool
-    ensures { result ≡ «some-row» (decision.eq_agrees rule topic.now) (spec.eq_rows eqs.now) }
+    ensures { result ≡ some_row (decision.eq_agrees rule topic.now) (spec.eq_rows eqs.now) }
 {
     let mut at = 0;
     while Counts::EQ <= eqs.len() - at {
@@ -295,7 +295,7 @@ fn eq_row_agrees(eqs: &[u8], rule: usize, topic: &[u8]) -> bool
 // Is there a filter row of the rule and the client that T-matches the topic?
 fn filter_row_agrees(filters: &[u8], rule: usize, id: &[u8], topic: &[u8], valid: bool) -> bool
     requires { valid ≡ valid_filter topic.now }
-    ensures { result ≡ «some-row» (decision.filter_agrees rule id.now topic.now) (spec.filter_rows filters.now) }
+    ensures { result ≡ some_row (decision.filter_agrees rule id.now topic.now) (spec.filter_rows filters.now) }
 {
     let mut at = 0;
     while Counts::FILTER <= filters.len() - at {
@@ -354,7 +354,7 @@ pub fn rule_agrees(
     protocol: Protocol,
     topic: &[u8],
 ) -> bool
-    ensures { result ≡ spec.line_agrees (record { id = id.entry.now; name = given name names.now; password = given password passwords.now; address = given address addresses.now; protocol = spec.protocol_of protocol }) (spec.wish_of asked topic.now) rule line.now filters.now eqs.now }
+    ensures { result ≡ spec.line_agrees (record { id = id.now; name = given name names.now; password = given password passwords.now; address = given address addresses.now; protocol = spec.protocol_of protocol }) (spec.wish_of asked topic.now) rule line.now filters.now eqs.now }
 {
     let Head::Agrees(_, _, topics) = head(
         line, asked, id, name, names, password, passwords, address, addresses, protocol,
@@ -391,7 +391,7 @@ pub(crate) fn deciding_in(
     topic: &[u8],
 ) -> Deciding
     requires { checked ≡ true → spec.every_rule (lines rules.now) ≡ true }
-    ensures { result ≡ spec.deciding (record { id = id.entry.now; name = given name names.now; password = given password passwords.now; address = given address addresses.now; protocol = spec.protocol_of protocol }) (spec.wish_of asked topic.now) rules.now filters.now eqs.now }
+    ensures { result ≡ spec.deciding (record { id = id.now; name = given name names.now; password = given password passwords.now; address = given address addresses.now; protocol = spec.protocol_of protocol }) (spec.wish_of asked topic.now) rules.now filters.now eqs.now }
 {
     let valid = valid_filter(topic);
     let mut allow = false;
@@ -471,7 +471,7 @@ pub fn deciding_rule(
     protocol: Protocol,
     topic: &[u8],
 ) -> Deciding
-    ensures { result ≡ spec.deciding (record { id = id.entry.now; name = given name names.now; password = given password passwords.now; address = given address addresses.now; protocol = spec.protocol_of protocol }) (spec.wish_of asked topic.now) rules.now filters.now eqs.now }
+    ensures { result ≡ spec.deciding (record { id = id.now; name = given name names.now; password = given password passwords.now; address = given address addresses.now; protocol = spec.protocol_of protocol }) (spec.wish_of asked topic.now) rules.now filters.now eqs.now }
 {
     deciding_in(
         rules, false, filters, eqs, asked, id, name, names, password, passwords, address,

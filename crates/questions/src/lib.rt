@@ -1,6 +1,7 @@
 // Questions: connect, subscribe and publish on a store (document 01, Plugin decisions). `decision` decides on a rule text and used rows that
 // are lent as parts of their own; the three questions check their arguments and the store first.
 #![tactic(auto)]
+
 pub mod ask;
 pub mod decision;
 

@@ -1,7 +1,8 @@
 // The JSON reader of document 01: it keeps a reference to its line and the next offset. Its functions are thin: each takes it apart
-// and calls a covered function with the slice and the number. `first_kind` and `read_fields` have plain parameters: whoever goes over a line
-// calls them, and needs no walk of his own.
+// and calls a function of the slice and the number. `first_kind` and `read_fields` have plain parameters: whoever goes over a line
+// calls them.
 #![tactic(auto)]
+
 ghost use Rattle.std.specs.Prelude.{◌≡◌};
 ghost use Rattle.json_text.specs.Json.{skip_blanks};
 ghost use Rattle.json_text.specs.Access.{kind_at};

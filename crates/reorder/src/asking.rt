@@ -118,30 +118,30 @@ fn of_connect(answer: ConnectAnswer) -> Answer {
 }
 
 // Writes the case of an answer and its number.
-fn show(answer: Answer) {
+fn show(rt: &impl Print, answer: Answer) {
     let case = answer.case;
     match case {
-        b'k' => say(b"kept"),
-        b'a' => say(b"allow"),
-        b's' => say(b"super"),
-        b'r' => say(b"refuse"),
-        b'd' => say(b"drop"),
-        _ => say(b"error"),
+        b'k' => say(rt, b"kept"),
+        b'a' => say(rt, b"allow"),
+        b's' => say(rt, b"super"),
+        b'r' => say(rt, b"refuse"),
+        b'd' => say(rt, b"drop"),
+        _ => say(rt, b"error"),
     }
-    say_number(b" ", answer.number);
+    say_number(rt, b" ", answer.number);
 }
 
 // Writes two answers side by side. Are they the same?
-fn side_by_side(one: Answer, other: Answer) -> bool {
-    say(b": ");
-    show(one);
-    say(b", ");
-    show(other);
+fn side_by_side(rt: &impl Print, one: Answer, other: Answer) -> bool {
+    say(rt, b": ");
+    show(rt, one);
+    say(rt, b", ");
+    show(rt, other);
     let same = (one.case == other.case) & (one.number == other.number) & (one.more == other.more);
     if same {
-        say(b": same\n");
+        say(rt, b": same\n");
     } else {
-        say(b": DIFFERENT\n");
+        say(rt, b": DIFFERENT\n");
     }
     same
 }
@@ -155,15 +155,15 @@ fn given(names: &[u8]) -> Given {
 }
 
 // Writes a question.
-fn question(word: &[u8], id: &[u8], names: &[u8], topic: &[u8]) {
-    say(word);
-    say(id);
-    say(b" ");
+fn question(rt: &impl Print, word: &[u8], id: &[u8], names: &[u8], topic: &[u8]) {
+    say(rt, word);
+    say(rt, id);
+    say(rt, b" ");
     if names.len() != 0 {
-        say(names);
-        say(b" ");
+        say(rt, names);
+        say(rt, b" ");
     }
-    say(topic);
+    say(rt, topic);
 }
 
 // A store's answer to a connect.
@@ -219,69 +219,85 @@ fn subscribe(store: &[u8; LENGTH], id: &[u8], name: Given, names: &[u8], topic: 
 }
 
 // May a client connect, by the one store and by the other?
-fn connects(a: &[u8; LENGTH], b: &[u8; LENGTH], id: &[u8], names: &[u8]) -> bool {
+fn connects(rt: &impl Print, a: &[u8; LENGTH], b: &[u8; LENGTH], id: &[u8], names: &[u8]) -> bool {
     let name = given(names);
-    question(b"connect ", id, b"", names);
-    side_by_side(connect(a, id, name, names), connect(b, id, name, names))
+    question(rt, b"connect ", id, b"", names);
+    side_by_side(rt, connect(a, id, name, names), connect(b, id, name, names))
 }
 
 // May a client publish to this topic, by the one store and by the other?
-fn publishes(a: &[u8; LENGTH], b: &[u8; LENGTH], id: &[u8], names: &[u8], topic: &[u8]) -> bool {
+fn publishes(
+    rt: &impl Print,
+    a: &[u8; LENGTH],
+    b: &[u8; LENGTH],
+    id: &[u8],
+    names: &[u8],
+    topic: &[u8],
+) -> bool {
     let name = given(names);
-    question(b"publish ", id, names, topic);
+    question(rt, b"publish ", id, names, topic);
     side_by_side(
+        rt,
         publish(a, id, name, names, topic),
         publish(b, id, name, names, topic),
     )
 }
 
 // May a client subscribe to this filter, by the one store and by the other?
-fn subscribes(a: &[u8; LENGTH], b: &[u8; LENGTH], id: &[u8], names: &[u8], topic: &[u8]) -> bool {
+fn subscribes(
+    rt: &impl Print,
+    a: &[u8; LENGTH],
+    b: &[u8; LENGTH],
+    id: &[u8],
+    names: &[u8],
+    topic: &[u8],
+) -> bool {
     let name = given(names);
-    question(b"subscribe ", id, names, topic);
+    question(rt, b"subscribe ", id, names, topic);
     side_by_side(
+        rt,
         subscribe(a, id, name, names, topic),
         subscribe(b, id, name, names, topic),
     )
 }
 
 // Connects by each client. Are all answers the same?
-fn all_connects(a: &[u8; LENGTH], b: &[u8; LENGTH]) -> bool {
-    let mut same = connects(a, b, b"g1", b"ann");
-    same = connects(a, b, b"g1", b"bo") & same;
-    same = connects(a, b, b"g2", b"bo") & same;
-    same = connects(a, b, b"g4", b"cy") & same;
-    connects(a, b, &LONG, b"bo") & same
+fn all_connects(rt: &impl Print, a: &[u8; LENGTH], b: &[u8; LENGTH]) -> bool {
+    let mut same = connects(rt, a, b, b"g1", b"ann");
+    same = connects(rt, a, b, b"g1", b"bo") & same;
+    same = connects(rt, a, b, b"g2", b"bo") & same;
+    same = connects(rt, a, b, b"g4", b"cy") & same;
+    connects(rt, a, b, &LONG, b"bo") & same
 }
 
 // Publishes by each client. Are all answers the same?
-fn all_publishes(a: &[u8; LENGTH], b: &[u8; LENGTH]) -> bool {
-    let mut same = publishes(a, b, b"g1", b"bo", b"bench/g1/step");
-    same = publishes(a, b, b"g1", b"bo", b"room/bo/g1") & same;
-    same = publishes(a, b, b"g1", b"ann", b"room/ann/g1") & same;
-    same = publishes(a, b, b"g2", b"bo", b"bench/g2/step") & same;
-    same = publishes(a, b, b"g3", b"", b"bench/g3/step") & same;
-    same = publishes(a, b, b"g3", b"", b"bench/g2/step") & same;
-    same = publishes(a, b, b"g4", b"bo", b"bench/g4/step") & same;
-    same = publishes(a, b, b"g4", b"bo", b"eq/bo") & same;
-    same = publishes(a, b, b"g5", b"cy", b"bench/g5/step") & same;
-    same = publishes(a, b, b"g5", b"cy", b"eq/cy") & same;
-    publishes(a, b, &LONG, b"bo", b"eq/bo") & same
+fn all_publishes(rt: &impl Print, a: &[u8; LENGTH], b: &[u8; LENGTH]) -> bool {
+    let mut same = publishes(rt, a, b, b"g1", b"bo", b"bench/g1/step");
+    same = publishes(rt, a, b, b"g1", b"bo", b"room/bo/g1") & same;
+    same = publishes(rt, a, b, b"g1", b"ann", b"room/ann/g1") & same;
+    same = publishes(rt, a, b, b"g2", b"bo", b"bench/g2/step") & same;
+    same = publishes(rt, a, b, b"g3", b"", b"bench/g3/step") & same;
+    same = publishes(rt, a, b, b"g3", b"", b"bench/g2/step") & same;
+    same = publishes(rt, a, b, b"g4", b"bo", b"bench/g4/step") & same;
+    same = publishes(rt, a, b, b"g4", b"bo", b"eq/bo") & same;
+    same = publishes(rt, a, b, b"g5", b"cy", b"bench/g5/step") & same;
+    same = publishes(rt, a, b, b"g5", b"cy", b"eq/cy") & same;
+    publishes(rt, a, b, &LONG, b"bo", b"eq/bo") & same
 }
 
 // Subscribes by each client. Are all answers the same?
-fn all_subscribes(a: &[u8; LENGTH], b: &[u8; LENGTH]) -> bool {
-    let mut same = subscribes(a, b, b"g1", b"bo", b"bench/g1/#");
-    same = subscribes(a, b, b"g2", b"bo", b"bench/g2/#") & same;
-    same = subscribes(a, b, b"g3", b"", b"room//g3") & same;
-    same = subscribes(a, b, b"g4", b"bo", b"bench/g4/#") & same;
-    same = subscribes(a, b, b"g4", b"bo", b"eq/ann") & same;
-    subscribes(a, b, b"g5", b"cy", b"bench/#") & same
+fn all_subscribes(rt: &impl Print, a: &[u8; LENGTH], b: &[u8; LENGTH]) -> bool {
+    let mut same = subscribes(rt, a, b, b"g1", b"bo", b"bench/g1/#");
+    same = subscribes(rt, a, b, b"g2", b"bo", b"bench/g2/#") & same;
+    same = subscribes(rt, a, b, b"g3", b"", b"room//g3") & same;
+    same = subscribes(rt, a, b, b"g4", b"bo", b"bench/g4/#") & same;
+    same = subscribes(rt, a, b, b"g4", b"bo", b"eq/ann") & same;
+    subscribes(rt, a, b, b"g5", b"cy", b"bench/#") & same
 }
 
 // All questions. Are all answers the same?
-pub(crate) fn ask_all(a: &[u8; LENGTH], b: &[u8; LENGTH]) -> bool {
-    let connected = all_connects(a, b);
-    let published = all_publishes(a, b);
-    all_subscribes(a, b) & published & connected
+pub(crate) fn ask_all(rt: &impl Print, a: &[u8; LENGTH], b: &[u8; LENGTH]) -> bool {
+    let connected = all_connects(rt, a, b);
+    let published = all_publishes(rt, a, b);
+    all_subscribes(rt, a, b) & published & connected
 }

@@ -59,22 +59,28 @@ fn same_rest(a: &[u8; LENGTH], b: &[u8; LENGTH], place: Place) -> bool {
 }
 
 // Writes how many rows of a table are used in both stores. Is each used row of the one a used row of the other?
-fn same_rows(a: &[u8; LENGTH], b: &[u8; LENGTH], place: Place, word: &[u8]) -> bool {
+fn same_rows(
+    rt: &impl Print,
+    a: &[u8; LENGTH],
+    b: &[u8; LENGTH],
+    place: Place,
+    word: &[u8],
+) -> bool {
     let rows = part(a, place.from, place.to);
     let others = part(b, place.from, place.to);
     let used = number_at(a, place.header);
     let used_too = number_at(b, place.header);
-    say(word);
-    say_number(b" rows used: ", used as u64);
-    say_number(b" and ", used_too as u64);
+    say(rt, word);
+    say_number(rt, b" rows used: ", used as u64);
+    say_number(rt, b" and ", used_too as u64);
     let there = among(rows, used, others, used_too, place.size);
     let back = among(others, used_too, rows, used, place.size);
-    whether(there & back, b", each also used in the other store");
+    whether(rt, there & back, b", each also used in the other store");
     there & back
 }
 
 // Compares two stores of these counts.
-fn alike_by(a: &[u8; LENGTH], b: &[u8; LENGTH], counts: Counts) -> bool {
+fn alike_by(rt: &impl Print, a: &[u8; LENGTH], b: &[u8; LENGTH], counts: Counts) -> bool {
     let filters = Place {
         from: counts.filters_at(),
         to: counts.eqs_at(),
@@ -93,21 +99,21 @@ fn alike_by(a: &[u8; LENGTH], b: &[u8; LENGTH], counts: Counts) -> bool {
         size: Counts::NOTE,
         header: 14,
     };
-    let mut rows = same_rows(a, b, filters, b"filter");
-    rows = same_rows(a, b, eqs, b"eq") & rows;
-    rows = same_rows(a, b, notes, b"note") & rows;
+    let mut rows = same_rows(rt, a, b, filters, b"filter");
+    rows = same_rows(rt, a, b, eqs, b"eq") & rows;
+    rows = same_rows(rt, a, b, notes, b"note") & rows;
     let front = text::same(part(a, 0, filters.from), part(b, 0, filters.from));
     let tables = same_rest(a, b, filters) & same_rest(a, b, eqs) & same_rest(a, b, notes);
-    whether(front & tables, b"all other bytes are equal");
-    whether(!same(a, b), b"the used rows stand in another sequence");
+    whether(rt, front & tables, b"all other bytes are equal");
+    whether(rt, !same(a, b), b"the used rows stand in another sequence");
     rows & front & tables
 }
 
 // Compares two stores of R 256 and F, E, N 8.
-pub(crate) fn alike(a: &[u8; LENGTH], b: &[u8; LENGTH]) -> bool {
+pub(crate) fn alike(rt: &impl Print, a: &[u8; LENGTH], b: &[u8; LENGTH]) -> bool {
     let CountsRead::Counts(counts) = Counts::new(256, 8, 8, 8) else {
-        say(b"no such counts\n");
+        say(rt, b"no such counts\n");
         return false;
     };
-    alike_by(a, b, counts)
+    alike_by(rt, a, b, counts)
 }

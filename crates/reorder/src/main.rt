@@ -3,6 +3,7 @@
 // (crates/acl/specs/Demand3.antt) by contract. What it writes is compared with the file `stdout`: the recorded answers of the events, the
 // used rows, all other bytes, and each answer to connect, publish and subscribe, side by side.
 #![tactic(auto)]
+
 mod asking;
 mod comparing;
 mod listing;
@@ -29,71 +30,77 @@ const REORDERED: [u8; EVENTS] = [4, 2, 5, 6, 1, 3, 7, 14, 9, 12, 10, 13, 15, 8, 
 const EARLIER: [u8; EVENTS] = [6, 13, 15, 2, 10, 9, 7, 1, 8, 1, 7, 3, 5, 12, 14];
 
 // Opens a store for the rules. Says so where it is refused.
-fn opened(store: &mut [u8; LENGTH]) {
+fn opened(rt: &impl Print, store: &mut [u8; LENGTH]) {
     match open(store, 256, 8, 8, 8, &RULES) {
         Opened::Done => {}
         Opened::Refused(_, _) => {
-            say(b"the rules are refused\n");
+            say(rt, b"the rules are refused\n");
         }
     }
 }
 
 // Runs the events of an order, and writes what was recorded.
-fn ran(store: &mut [u8; LENGTH], order: &[u8; EVENTS], records: &mut [u8; EVENTS]) {
+fn ran(
+    rt: &impl Print,
+    store: &mut [u8; LENGTH],
+    order: &[u8; EVENTS],
+    records: &mut [u8; EVENTS],
+) {
     running::run(store, order, records);
-    telling::tell_all(order, records);
+    telling::tell_all(rt, order, records);
 }
 
 // Runs both orders. Is the second one of those that demand 3 means, and are the same events refused?
-fn both(first: &mut [u8; LENGTH], second: &mut [u8; LENGTH]) -> bool {
+fn both(rt: &impl Print, first: &mut [u8; LENGTH], second: &mut [u8; LENGTH]) -> bool {
     let mut records = [0; EVENTS];
     let mut others = [0; EVENTS];
-    say(b"The events in their order\n");
-    ran(first, &LISTED, &mut records);
-    say(b"The events in another order\n");
-    ran(second, &REORDERED, &mut others);
+    say(rt, b"The events in their order\n");
+    ran(rt, first, &LISTED, &mut records);
+    say(rt, b"The events in another order\n");
+    ran(rt, second, &REORDERED, &mut others);
     let kept = running::keeps(&REORDERED);
     saying::whether(
+        rt,
         kept,
         b"a reordering, in which events that share a client id or a session number keep their order",
     );
     let refused = running::same_refused(&LISTED, &records, &REORDERED, &others);
-    saying::whether(refused, b"the same events are refused");
+    saying::whether(rt, refused, b"the same events are refused");
     kept & refused
 }
 
 // Opens both stores and, where rows are wanted, runs the same events on both.
-fn prepared(first: &mut [u8; LENGTH], second: &mut [u8; LENGTH], rows: bool) {
-    opened(first);
-    opened(second);
+fn prepared(rt: &impl Print, first: &mut [u8; LENGTH], second: &mut [u8; LENGTH], rows: bool) {
+    opened(rt, first);
+    opened(rt, second);
     if rows {
         let mut records = [0; EVENTS];
-        say(b"The stores hold rows already, of these events\n");
-        ran(first, &EARLIER, &mut records);
+        say(rt, b"The stores hold rows already, of these events\n");
+        ran(rt, first, &EARLIER, &mut records);
         running::run(second, &EARLIER, &mut records);
     }
 }
 
 // Do two stores of the rules agree after the two orders, whatever they held before they were opened?
-fn round(rows: bool) -> bool {
+fn round(rt: &impl Print, rows: bool) -> bool {
     let mut first = [0; LENGTH];
     let mut second = [255; LENGTH];
-    prepared(&mut first, &mut second, rows);
+    prepared(rt, &mut first, &mut second, rows);
     let equal = comparing::same(&first, &second);
-    saying::whether(equal, b"the stores are equal before the first event");
-    let meant = both(&mut first, &mut second);
-    let alike = comparing::alike(&first, &second);
-    let answered = asking::ask_all(&first, &second);
+    saying::whether(rt, equal, b"the stores are equal before the first event");
+    let meant = both(rt, &mut first, &mut second);
+    let alike = comparing::alike(rt, &first, &second);
+    let answered = asking::ask_all(rt, &first, &second);
     equal & meant & alike & answered
 }
 
-fn main() {
-    say(&RULES);
-    let opened = round(false);
-    let filled = round(true);
+fn main(rt: HostRuntime) {
+    say(&rt, &RULES);
+    let opened = round(&rt, false);
+    let filled = round(&rt, true);
     if opened & filled {
-        say(b"the stores agree\n");
+        say(&rt, b"the stores agree\n");
     } else {
-        say(b"the stores differ\n");
+        say(&rt, b"the stores differ\n");
     }
 }

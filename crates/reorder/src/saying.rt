@@ -2,26 +2,24 @@
 ghost use Rattle.std.specs.Prelude.{◌≡◌};
 ghost use Rattle.reorder.specs.Saying as spec;
 
-use libc::STDOUT_FILENO;
-
-// Writes words as they are.
-pub(crate) fn say(words: &[u8]) {
-    io::write_all(STDOUT_FILENO, words);
+// Writes words as they are. What cannot be written is lost; the run goes on.
+pub(crate) fn say(rt: &impl Print, words: &[u8]) {
+    let _ = rt.write_all(words);
 }
 
 // Writes words and, behind them, a number.
-pub(crate) fn say_number(words: &[u8], n: u64) {
-    say(words);
-    io::print_decimal(STDOUT_FILENO, n);
+pub(crate) fn say_number(rt: &impl Print, words: &[u8], n: u64) {
+    say(rt, words);
+    let _ = rt.print(n);
 }
 
 // Writes a line: what is claimed, and whether it is so.
-pub(crate) fn whether(so: bool, claim: &[u8]) {
-    say(claim);
+pub(crate) fn whether(rt: &impl Print, so: bool, claim: &[u8]) {
+    say(rt, claim);
     if so {
-        say(b": yes\n");
+        say(rt, b": yes\n");
     } else {
-        say(b": NO\n");
+        say(rt, b": NO\n");
     }
 }
 

@@ -1,24 +1,28 @@
 // Replays whole inputs of `decide`, from 01.txt on until one is missing, and writes what it answers to each.
 #![tactic(auto)]
-use libc::STDOUT_FILENO;
+
+use std::fs::File;
+use std::io;
+use std::rt::Files;
+use std::str;
+use streams::deciding::decide;
 
 // One input, if there is a file with this number.
-fn replay(number: u8) -> bool {
+fn replay<R: Files + Print + Eprint>(rt: &R, number: u8) -> bool {
     let tens = b'0' + number / 10 % 10;
     let ones = b'0' + number % 10;
-    let fd = os::open_read(&[tens, ones, b'.', b't', b'x', b't']);
-    if fd < 0 {
+    let name = [tens, ones, b'.', b't', b'x', b't'];
+    let Ok(mut file) = File::open(rt, str::from_utf8(&name).unwrap()) else {
         return false;
-    }
-    io::write_all(STDOUT_FILENO, &[b'=', b' ', tens, ones, b'\n']);
-    streams::deciding::decide(fd, STDOUT_FILENO);
-    libc::close(fd);
+    };
+    let _ = rt.write_all(&[b'=', b' ', tens, ones, b'\n']);
+    decide(rt, &mut file, &mut io::writer(rt));
     true
 }
 
-fn main() {
+fn main(rt: HostRuntime) {
     let mut number: u8 = 1;
-    while number < 100 && replay(number) {
+    while number < 100 && replay(&rt, number) {
         number += 1;
     }
 }

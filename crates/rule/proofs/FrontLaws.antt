@@ -36,17 +36,14 @@ use Rattle.rule.specs.declared.ControlRead.TheVariants.{Is as ControlIs, Bad as 
 use Rattle.rule.specs.declared.Users.{Users}
 use Rattle.rule.specs.declared.UsersRead.{UsersRead}
 use Rattle.rule.specs.declared.UsersRead.TheVariants.{Users as UsersAre, Bad as BadUsers}
-use Rattle.rule.specs.declared.UsersPassed.{UsersPassed}
 use Rattle.rule.specs.declared.UsersPassed.TheVariants.{Users as PassedUsers, Unread as UnreadUsers}
 use Rattle.rule.specs.declared.MemberPlaces.{MemberPlaces}
 use Rattle.rule.specs.declared.Topics.{Topics}
 use Rattle.rule.specs.declared.Topics.TheVariants.{All, Listed}
 use Rattle.rule.specs.declared.Refusal.TheVariants.{TooLong, NotARule}
 use Rattle.rule.specs.declared.Rule.{Rule}
-use Rattle.rule.specs.declared.RuleRead.{RuleRead}
 use Rattle.rule.specs.declared.RuleRead.TheVariants.{Rule as RuleIs, Refused}
 use Rattle.rule.specs.declared.Parts.{Parts}
-use Rattle.rule.specs.declared.AccessPassed.{AccessPassed}
 use Rattle.rule.specs.declared.AccessPassed.TheVariants.{Access, Unread as UnreadAccess}
 use Rattle.rule.specs.declared.Rest.{Rest}
 use Rattle.rule.specs.declared.Rest.TheVariants.{Rest as RestIs, Unread as UnreadRest}

@@ -2,16 +2,12 @@
 use Prim.Native.Nat.{ℕ, ◌+◌, ◌%◌}
 use native.Mathlib.Omega.{arith}
 use mathlib.Core.Path.{◌≡◌, refl, sym, ap, subst, ◌∙◌}
-use mathlib.Core.Bool.{Bool, true, false, not, cond}
+use mathlib.Core.Bool.{Bool, true, false, cond}
 use mathlib.Core.List.{List, map}
 use mathlib.Core.Option
 use mathlib.Core.Option.{Option, none, some, bind}
-use lib.Dec.{T}
 use lib.ListN.{length}
 use borrow.Author.Tests.{ne_eqb}
-use denote.Enum.Declared.{tag_of}
-use types.Run.{OneOf, miss}
-use mir.Val.{has_key}
 use Rattle.text.specs.Ascii.{ascii}
 use Rattle.text.specs.Text.{same}
 use Rattle.text.proofs.Laws.{same_true}
@@ -30,7 +26,6 @@ use Rattle.json_text.specs.declared.Kind.TheVariants.{Number, Text, Array, Objec
 use Rattle.json_text.proofs.AccessSteps.{kind_is, kind_opens}
 use Rattle.json_text.proofs.PlainLaws.{plain_text_by}
 use Rattle.json_text.proofs.AccessLaws.{MembersIn, kind_is_lem, object_is, named_is, number_of, number_is, truth_is, string_here}
-use Rattle.json_text.specs.contracts.Kind as kind
 use Rattle.json_text.proofs.ValueLaws.{All, value_as, value_by}
 use Rattle.rule.specs.Rule as spec
 use Rattle.rule.specs.Rule.{Located, Value, named, member_named_lem, as_text, as_number, as_bool, as_object, password_of, flag, user_of, users_in, everyone, users_of, is_word, lower}
@@ -39,16 +34,14 @@ use Rattle.rule.specs.Members.{text_from, number_from, truth_from, password_from
 use Rattle.rule.specs.declared.MemberPlaces.{MemberPlaces}
 use Rattle.rule.specs.declared.Word.{Word}
 use Rattle.rule.specs.declared.Word.TheVariants.{Allow, Deny, All as WordAll, Connect as WordConnect, Publish as WordPublish, Subscribe as WordSubscribe, Pubsub as WordPubsub, Other as OtherWord}
-use Rattle.rule.specs.declared.User.TheVariants.{Anyone, Named}
+use Rattle.rule.specs.declared.User.TheVariants.{Anyone}
 use Rattle.rule.specs.declared.UserRead.{UserRead}
-use Rattle.rule.specs.declared.UserRead.TheVariants.{User as UserIs, Bad as BadUser}
 use Rattle.rule.specs.declared.PasswordRead.{PasswordRead}
 use Rattle.rule.specs.declared.PasswordRead.TheVariants.{Password, Bad as BadPassword}
 use Rattle.rule.specs.declared.Protocol.{Protocol}
 use Rattle.rule.specs.declared.Protocol.TheVariants.{Any, Is as ProtocolIs}
 use Rattle.rule.specs.declared.UsersRead.{UsersRead}
 use Rattle.rule.specs.declared.UsersRead.TheVariants.{Users as UsersAre, Bad as BadUsers}
-use Rattle.rule.specs.contracts.Word as word
 
 -- ---- a member by its place
 
@@ -340,10 +333,6 @@ places_in_lem line at {ms} e =
 
 -- ---- by the kind of the value at a place
 
--- a kind that is one of an arm's is no kind that the arm has not
-pub other_kind : (ks : List ℕ) (k j : Kind) → OneOf ks (tag_of kind.the_type k) → T (not (has_key ks (tag_of kind.the_type j))) → k ≡ j → ⊥
-other_kind ks k j h n e = miss ks (tag_of kind.the_type j) n (subst (λ (x : Kind). OneOf ks (tag_of kind.the_type x)) e h)
-
 pub not_text : (line : List ℕ) (at : ℕ) → (kind_at line at ≡ Text → ⊥) → is_text_at line at ≡ false
 unfolding is_text_at is_text_kind
 not_text line at = by (kind_at line at)
@@ -486,9 +475,6 @@ not_all WordPublish h = refl
 not_all WordSubscribe h = refl
 not_all WordPubsub h = refl
 not_all OtherWord h = refl
-
-pub other_word : (ks : List ℕ) (w j : Word) → OneOf ks (tag_of word.the_type w) → T (not (has_key ks (tag_of word.the_type j))) → w ≡ j → ⊥
-other_word ks w j h n e = miss ks (tag_of word.the_type j) n (subst (λ (x : Word). OneOf ks (tag_of word.the_type x)) e h)
 
 -- a text is one word only
 one_word : (a b t : List ℕ) → (length a ≡ length b → ⊥) → is_word a t ≡ true → is_word b t ≡ true → ⊥

@@ -4,13 +4,10 @@ use native.Mathlib.Numerals.{add-one}
 use native.Mathlib.Omega.{arith}
 use mathlib.Core.Path.{◌≡◌, refl, sym, ap, ◌∙◌}
 use mathlib.Core.Bool.{Bool, true, false, cond}
-use mathlib.Core.List.{List, [], ◌∷◌}
+use mathlib.Core.List.{List, ◌∷◌}
 use mathlib.Core.Option.{Option, none, some}
-use mathlib.Core.Logic.{⊎_elim}
 use lib.Dec.{ltb}
 use lib.ListN.{length, drop}
-use types.Run.{OneOf}
-use denote.Enum.Declared.{tag_of}
 use borrow.Author.Tests.{lt-ltb, le-ltb}
 use Rattle.json_text.specs.Lines.{lines, line_at, count_up_to}
 use Rattle.json_text.specs.Json.{line_value}
@@ -23,7 +20,6 @@ use Rattle.rule.specs.RuleText.{Result, refused, gives, Fault, read_rule, fault_
 use Rattle.rule.specs.Places.{topics_here, too_many, parts_here, control_here, users_of_place, with_topics, with_control, with_users, rule_behind, with_access, access_at, rule_here, fourth_of, rule_answer, rules_answer, faulty_line}
 use Rattle.rule.specs.declared.Word.{Word}
 use Rattle.rule.specs.declared.Word.TheVariants.{Allow, Deny, All, Connect, Publish, Subscribe, Pubsub, Other}
-use Rattle.rule.specs.contracts.Word.{the_type}
 use Rattle.rule.specs.declared.Control.{Control}
 use Rattle.rule.specs.declared.ControlRead.{ControlRead}
 use Rattle.rule.specs.declared.Users.{Users}
@@ -181,20 +177,13 @@ rules_faulty_told {answer} {cause} {line} n (some f) e q =
 
 -- ---- the access
 
--- of the words, in their declared order, those behind the second are no access
-later : (x : ℕ) → OneOf (2 ∷ 3 ∷ 4 ∷ 5 ∷ 6 ∷ 7 ∷ []) x → 2 ≤ x
-later x h =
-    ⊎_elim (λ e. omega arith)
-    (λ h. ⊎_elim (λ e. omega arith) (λ h. ⊎_elim (λ e. omega arith) (λ h. ⊎_elim (λ e. omega arith) (λ h. ⊎_elim (λ e. omega arith) (λ e. omega arith) h) h) h) h)
-    h
-
-pub no_access : (line : List ℕ) (parts : Parts) (w : Word) → OneOf (2 ∷ 3 ∷ 4 ∷ 5 ∷ 6 ∷ 7 ∷ []) (tag_of the_type w) → with_access line parts w ≡ Refused NotARule
+pub no_access : (line : List ℕ) (parts : Parts) (w : Word) → (w ≡ Allow → ⊥) → (w ≡ Deny → ⊥) → with_access line parts w ≡ Refused NotARule
 unfolding with_access
-no_access line parts Allow h = absurd (omega (arith, later 0 h))
-no_access line parts Deny h = absurd (omega (arith, later 1 h))
-no_access line parts All h = refl
-no_access line parts Connect h = refl
-no_access line parts Publish h = refl
-no_access line parts Subscribe h = refl
-no_access line parts Pubsub h = refl
-no_access line parts Other h = refl
+no_access line parts Allow h k = absurd (h refl)
+no_access line parts Deny h k = absurd (k refl)
+no_access line parts All h k = refl
+no_access line parts Connect h k = refl
+no_access line parts Publish h k = refl
+no_access line parts Subscribe h k = refl
+no_access line parts Pubsub h k = refl
+no_access line parts Other h k = refl

@@ -39,10 +39,8 @@ use Rattle.rule.specs.declared.Control.TheVariants.{All, Connect, Publish, Subsc
 use Rattle.rule.specs.declared.ControlRead.{ControlRead}
 use Rattle.rule.specs.declared.ControlRead.TheVariants.{Bad as BadControl}
 use Rattle.rule.specs.declared.UsersRead.{UsersRead}
-use Rattle.rule.specs.declared.Topic.{Topic}
 use Rattle.rule.specs.declared.Topic.TheVariants.{Filter, Template, Eq, EqTemplate}
 use Rattle.rule.specs.declared.Topics.TheVariants.{Listed}
-use Rattle.rule.specs.declared.Rule.{Rule}
 use Rattle.rule.specs.declared.Refusal.TheVariants.{TooLong, NotJson, NotARule}
 use Rattle.rule.specs.declared.RuleRead.{RuleRead}
 use Rattle.rule.specs.declared.RuleRead.TheVariants.{Rule as RuleIs, Refused}

@@ -1,14 +1,13 @@
 -- Laws of the filled templates of a rule text: the rule of each is one of the text's, and each is a filter or an eq. Assumes nothing.
-use Prim.Native.Nat.{ℕ, zero, suc, ◌+◌, ◌≤◌, ◌<◌}
-use native.Mathlib.Nat.{le_trans}
+use Prim.Native.Nat.{ℕ, suc, ◌+◌, ◌≤◌, ◌<◌}
 use native.Mathlib.Omega.{arith}
 use mathlib.Core.Bool.{Bool, true, false, cond, beq}
 use mathlib.Core.List.{List, [], ◌∷◌, ◌++◌}
 use mathlib.Core.Option.{Option}
-use mathlib.Core.Path.{◌≡◌, refl, sym, ◌∙◌, ap}
+use mathlib.Core.Path.{◌≡◌, refl}
 use lib.ListN.{length, length-map}
 use Rattle.json_text.specs.Lines.{lines}
-use Rattle.rule.specs.Rule.{Rule, Meaning, means, TopicOf, is_template}
+use Rattle.rule.specs.Rule.{Meaning, TopicOf, is_template}
 use Rattle.rule.specs.Fill.{fill}
 use Rattle.rule.specs.RuleText.{Filled, read_rule, rule_on, rules_of, filled_topics, listed, filled_rules, filled, of_kind}
 

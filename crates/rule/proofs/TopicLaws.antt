@@ -3,22 +3,20 @@ use Prim.Native.Nat.{ℕ, zero, suc, ◌+◌, ◌-◌, ◌≤◌, ◌<◌}
 use native.Mathlib.Omega.{arith}
 use mathlib.Core.Path.{◌≡◌, refl, sym, ap, subst, ◌∙◌}
 use mathlib.Core.Bool.{Bool, true, false, ◌&&◌, ◌||◌, cond}
-use mathlib.Core.List.{List, [], ◌∷◌}
+use mathlib.Core.List.{List}
 use mathlib.Core.Option.{Option, none, some, bind, map}
 use lib.Dec.{eqb, ltb, leb}
 use native.Mathlib.Numerals.{add-one}
 use lib.ListN.{length, get_or, take, drop, length-take, length-drop, drop_of_length-le}
 use lib.Seq.{drop-cons, length-take-le}
 use borrow.Author.Tests.{ne_eqb, lt-leb, eqb-true, le-ltb, lt-ltb, leb-true, leb-false}
-use denote.Enum.Declared.{tag_of}
-use types.Run.{OneOf, miss}
 use Rattle.text.specs.Ascii.{ascii}
 use Rattle.text.specs.Text.{begins, contains, written}
 use Rattle.text.proofs.Laws.{written-take, isnt}
 use Rattle.topic.specs.Topic.{valid_filter}
 use Rattle.json_text.specs.Utf8.{byte_at, between}
 use Rattle.json_text.specs.Strings.{Decoded, string_at}
-use Rattle.json_text.specs.Json.{text, array, Members, is_at, kind_of}
+use Rattle.json_text.specs.Json.{object, Members, is_at, kind_of}
 use Rattle.json_text.specs.Access.{kind_at, first_item, next_item, copied, decoded_into}
 use Rattle.json_text.specs.declared.Kind.TheVariants.{Text, Array, Object}
 use Rattle.json_text.specs.declared.Copied.{Copied}
@@ -34,7 +32,6 @@ use Rattle.rule.specs.Limits.{text_limit}
 use Rattle.rule.specs.Places.{value_of, member_of, text_place, placed_topic, topic_answer, string_topic, eq_topic, is_topic, topics_from, are_topics, topics_here}
 use Rattle.rule.specs.declared.Topic.{Topic}
 use Rattle.rule.specs.declared.Topic.TheVariants.{Filter, Template, Eq, EqTemplate, Bad as BadTopic}
-use Rattle.rule.specs.contracts.Topic as topic
 use Rattle.rule.proofs.MemberLaws.{neither, in_object, string_value, text_value, StringIs, member_string}
 
 -- ---- a string, decoded
@@ -231,8 +228,13 @@ module _ (line : List ℕ) (at : ℕ) where
   topic_object : kind_at line at ≡ Object → bind (value_of line at) topic_of ≡ map as_eq (bind (member_of line at (ascii "eq")) as_text)
   unfolding topic_of as_object member_of as_eq
   topic_object k =
-      in_object topic_of (λ v. map as_eq (bind (bind (as_object v) (member_named_lem (ascii "eq"))) as_text)) line at (λ p ms. unfold bind in refl) k ∙ by (value_of line at)
+      in_object topic_of (λ v. map as_eq (bind (bind (as_object v) (member_named_lem (ascii "eq"))) as_text)) line at among k ∙ by (value_of line at)
     where
+      among : (p : ℕ) (ms : Members) →
+          topic_of (record { at = p; value = object ms })
+          ≡ map as_eq (bind (bind (as_object (record { at = p; value = object ms })) (member_named_lem (ascii "eq"))) as_text)
+      among p ms = unfold bind in refl
+
       by : (o : Option Value)
           → bind o (λ v. map as_eq (bind (bind (as_object v) (member_named_lem (ascii "eq"))) as_text))
           ≡ map as_eq (bind (bind o (λ v. bind (as_object v) (member_named_lem (ascii "eq")))) as_text)
@@ -278,13 +280,13 @@ module _ (line : List ℕ) (at : ℕ) where
 
 -- ---- the topics of an array
 
-pub good_topic : (t : Topic) → OneOf (0 ∷ 1 ∷ 2 ∷ 3 ∷ []) (tag_of topic.the_type t) → is_topic t ≡ true
+pub good_topic : (t : Topic) → (t ≡ BadTopic → ⊥) → is_topic t ≡ true
 unfolding is_topic
 good_topic (Filter at) h = refl
 good_topic (Template at) h = refl
 good_topic (Eq at) h = refl
 good_topic (EqTemplate at) h = refl
-good_topic BadTopic h = absurd (miss (0 ∷ 1 ∷ 2 ∷ 3 ∷ []) 4 tt h)
+good_topic BadTopic h = absurd (h refl)
 
 pub topics_end : (most : ℕ) (line : List ℕ) → topics_from most line Nowhere ≡ true
 unfolding topics_from

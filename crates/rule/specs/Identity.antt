@@ -2,7 +2,7 @@
 use Rattle.std.specs.Prelude.{ℕ, Bool, true, false, ◌&&◌, cond, List, eqb}
 use Rattle.std.proofs.Math.Option.{Option, none, some}
 use Rattle.text.specs.Text.{same}
-use Rattle.rule.specs.Rule.{UserOf, RuleOf, Meaning}
+use Rattle.rule.specs.Rule.{UserOf, Meaning}
 use Rattle.rule.specs.declared.Identity.{Identity}
 use Rattle.rule.specs.declared.Identity.TheVariants.{Agrees, Differs}
 

@@ -1,5 +1,5 @@
 -- The users of an object, by the places of its members' values.
-use Rattle.std.specs.Prelude.{ℕ, ◌+◌, ◌≤◌, ◌%◌, ◌≡◌, Bool, true, false, cond, List}
+use Rattle.std.specs.Prelude.{ℕ, ◌+◌, ◌≤◌, ◌%◌, ◌≡◌, Bool, false, cond, List}
 use Rattle.std.proofs.Math.Option.{some}
 use Rattle.text.specs.Ascii.{ascii}
 use Rattle.text.specs.Text.{same}

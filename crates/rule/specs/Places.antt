@@ -1,12 +1,12 @@
 -- What the reading functions answer: rules by the places of their texts in the line.
-use Rattle.std.specs.Prelude.{ℕ, zero, suc, ◌%◌, Bool, true, false, ◌&&◌, ◌||◌, not, cond, List, [], ◌∷◌, map, eqb, ltb, leb, length, take}
+use Rattle.std.specs.Prelude.{ℕ, zero, suc, ◌%◌, Bool, true, false, ◌&&◌, ◌||◌, cond, List, ltb, leb, length, take}
 use Rattle.std.proofs.Math.Option
 use Rattle.std.proofs.Math.Option.{Option, none, some, bind}
 use Rattle.text.specs.Ascii.{ascii}
 use Rattle.text.specs.Text.{written}
 use Rattle.topic.specs.Topic.{valid_filter}
 use Rattle.json_text.specs.Strings.{Decoded, string_at}
-use Rattle.json_text.specs.Json.{Json, null, bool, number, text, array, object, Elements, Members, is_at, skip_blanks, value_at, depth_limit}
+use Rattle.json_text.specs.Json.{Json, Elements, Members, is_at, skip_blanks, value_at, depth_limit}
 use Rattle.json_text.specs.Access.{kind_at, first_item, next_item, element_count}
 use Rattle.json_text.specs.declared.Kind.{Kind}
 use Rattle.json_text.specs.declared.Kind.TheVariants.{Number, Text, Array, Object, Word as WordKind, Blank, Other as OtherKind}

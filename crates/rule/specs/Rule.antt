@@ -1,5 +1,5 @@
 -- A plugin rule, read from the value of a line: document 01, Plugin rule; `Rule::try_from` of config.rs.
-use Rattle.std.specs.Prelude.{ℕ, zero, suc, ◌+◌, ◌%◌, Bool, true, false, ◌&&◌, ◌||◌, not, cond, List, [], ◌∷◌, map, eqb, ltb, length}
+use Rattle.std.specs.Prelude.{ℕ, zero, suc, ◌+◌, ◌%◌, Bool, true, false, ◌||◌, cond, List, [], ◌∷◌, map}
 use Rattle.std.proofs.Math.Option
 use Rattle.std.proofs.Math.Option.{Option, none, some, bind}
 use Rattle.text.specs.Ascii.{ascii}

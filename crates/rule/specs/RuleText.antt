@@ -1,13 +1,13 @@
 -- A whole rule text: its lines as rules, the first faulty line, and its templates filled for a client; document 01, Refusals by operation
 -- (Open) and Events.
-use Rattle.std.specs.Prelude.{ℕ, zero, suc, Bool, true, false, ◌&&◌, ◌||◌, not, cond, List, [], ◌∷◌, ◌++◌, map, ltb, length}
+use Rattle.std.specs.Prelude.{ℕ, suc, Bool, false, ◌||◌, cond, List, [], ◌∷◌, ◌++◌, map, ltb, length}
 use Rattle.std.specs.Bool.{beq}
 use Rattle.std.proofs.Math.Option.{Option, none, some, bind}
 use Rattle.json_text.specs.Lines.{lines}
-use Rattle.json_text.specs.Json.{Json, null, bool, number, text, array, object, Elements, no_element, element, line_value, longest}
+use Rattle.json_text.specs.Json.{Json, null, bool, number, text, array, object, Elements, line_value, longest}
 use Rattle.json_text.specs.Access.{count}
 use Rattle.rule.specs.Limits.{line_limit, text_limit, topics_limit, lines_limit}
-use Rattle.rule.specs.Rule.{Value, Rule, Meaning, RuleOf, TopicOf, means, nth, as_array, rule_of, is_template}
+use Rattle.rule.specs.Rule.{Rule, Meaning, TopicOf, means, nth, as_array, rule_of, is_template}
 use Rattle.rule.specs.Fill.{fill}
 use Rattle.rule.specs.declared.Refusal.{Refusal}
 use Rattle.rule.specs.declared.Refusal.TheVariants.{TooLong, NotJson, NotARule}

@@ -1,5 +1,6 @@
 // Plugin rules, read from lines of JSON, and whom they mean (document 01, Plugin rule and Identity; config.rs).
 #![tactic(auto)]
+
 pub mod agreement;
 pub mod ahead;
 pub mod fill;

@@ -1,6 +1,7 @@
 // The store (document 01, Store): counts, layout, open, the check behind number 3, and rows. The caller lends its bytes; what they mean
 // is `view` of specs/View.antt. The crates above go by offsets of `Counts` and lend each table on as a part of its own.
 #![tactic(auto)]
+
 pub mod check;
 pub mod opening;
 pub mod rows;

@@ -1,58 +1,58 @@
 // What is written of an open: the question, the answer, and the state of the store then.
-use libc::STDOUT_FILENO;
 use rule::refusal_number;
 use store::Opened;
 use store::check::check;
 use store::opening::open;
 use text::front;
 
-// Writes words as they are.
-pub(crate) fn say(words: &[u8]) {
-    io::write_all(STDOUT_FILENO, words);
+// Writes words as they are. What cannot be written is lost; the run goes on.
+pub(crate) fn say(rt: &impl Print, words: &[u8]) {
+    let _ = rt.write_all(words);
 }
 
 // Writes words and, behind them, a number.
-pub(crate) fn say_number(words: &[u8], n: u64) {
-    say(words);
-    io::print_decimal(STDOUT_FILENO, n);
+pub(crate) fn say_number(rt: &impl Print, words: &[u8], n: u64) {
+    say(rt, words);
+    let _ = rt.print(n);
 }
 
 // Opens the lent bytes, and writes the counts, the two lengths and the answer.
-fn answer(lent: &mut [u8], r: u64, f: u64, e: u64, n: u64, text: &[u8]) {
-    say_number(b"open ", r);
-    say_number(b" ", f);
-    say_number(b" ", e);
-    say_number(b" ", n);
-    say_number(b" in ", lent.len() as u64);
-    say_number(b" bytes, text of ", text.len() as u64);
+fn answer(rt: &impl Print, lent: &mut [u8], r: u64, f: u64, e: u64, n: u64, text: &[u8]) {
+    say_number(rt, b"open ", r);
+    say_number(rt, b" ", f);
+    say_number(rt, b" ", e);
+    say_number(rt, b" ", n);
+    say_number(rt, b" in ", lent.len() as u64);
+    say_number(rt, b" bytes, text of ", text.len() as u64);
     match open(lent, r, f, e, n, text) {
         Opened::Done => {
-            say(b": done");
+            say(rt, b": done");
         }
         Opened::Refused(cause, line) => {
-            say_number(b": error ", refusal_number(cause) as u64);
-            say_number(b" line ", line as u64);
+            say_number(rt, b": error ", refusal_number(cause) as u64);
+            say_number(rt, b" line ", line as u64);
         }
     }
 }
 
 // Does the buffer begin as it was kept, and is the store as laid out?
-fn say_state(buffer: &[u8], kept: &[u8], whole: usize) {
+fn say_state(rt: &impl Print, buffer: &[u8], kept: &[u8], whole: usize) {
     if text::begins(buffer, kept) {
-        say(b", unchanged");
+        say(rt, b", unchanged");
     } else {
-        say(b", changed");
+        say(rt, b", changed");
     }
     if check(front(buffer, whole)) {
-        say(b", as laid out\n");
+        say(rt, b", as laid out\n");
     } else {
-        say(b", not as laid out\n");
+        say(rt, b", not as laid out\n");
     }
 }
 
 // Lends the first `lent` bytes of a buffer to an open. The first `whole` of it are the store whose state is written then; `kept` has
 // room for the bytes that have to be as before.
 pub(crate) fn attempt(
+    rt: &impl Print,
     buffer: &mut [u8],
     kept: &mut [u8],
     whole: usize,
@@ -67,6 +67,6 @@ pub(crate) fn attempt(
         return;
     }
     text::paste(front(buffer, kept.len()), kept, 0);
-    answer(&mut buffer[0..lent], r, f, e, n, text);
-    say_state(buffer, kept, whole);
+    answer(rt, &mut buffer[0..lent], r, f, e, n, text);
+    say_state(rt, buffer, kept, whole);
 }

@@ -36,9 +36,9 @@ impl Tally {
     }
 
     // Writes the tally, as `40 of 40` and what came out so.
-    pub(crate) fn print(self, words: &[u8]) {
-        say_number(b"", self.right);
-        say_number(b" of ", self.all);
-        say(words);
+    pub(crate) fn print(self, rt: &impl Print, words: &[u8]) {
+        say_number(rt, b"", self.right);
+        say_number(rt, b" of ", self.all);
+        say(rt, words);
     }
 }

@@ -27,9 +27,10 @@ pub fn repeat(text: &mut [u8], line: &[u8])
 }
 
 // An open of a store of 4,096 bytes of rule text, for the first `n` bytes of a text.
-fn roomy(store: &mut [u8; LENGTH], text: &[u8], n: usize) {
+fn roomy(rt: &impl Print, store: &mut [u8; LENGTH], text: &[u8], n: usize) {
     let mut kept = [0; LENGTH];
     attempt(
+        rt,
         store,
         &mut kept,
         LENGTH,
@@ -43,24 +44,28 @@ fn roomy(store: &mut [u8; LENGTH], text: &[u8], n: usize) {
 }
 
 // An open for a text of two lines, of which the first is a rule.
-fn second(store: &mut [u8; LENGTH], line: &[u8]) {
+fn second(rt: &impl Print, store: &mut [u8; LENGTH], line: &[u8]) {
     let mut text = [b' '; 4096];
     text::paste(&FIRST, &mut text, 0);
     text::paste(line, &mut text, FIRST.len());
     if line.len() < 4000 {
-        roomy(store, &text, FIRST.len() + line.len());
+        roomy(rt, store, &text, FIRST.len() + line.len());
     }
 }
 
 // 256 lines, in which the text has exactly R bytes; a byte more than R; R a byte less; then one line more.
-fn many_lines(store: &mut [u8; LENGTH]) {
+fn many_lines(rt: &impl Print, store: &mut [u8; LENGTH]) {
     let mut kept = [0; LENGTH];
     let mut text = [b' '; 4112];
-    say(b"256 lines of 16 bytes, all of R; a byte over R, which is line 257; R a byte less\n");
+    say(
+        rt,
+        b"256 lines of 16 bytes, all of R; a byte over R, which is line 257; R a byte less\n",
+    );
     repeat(&mut text, b"[\"deny\", \"all\"]\n");
-    roomy(store, &text, 4096);
-    roomy(store, &text, 4097);
+    roomy(rt, store, &text, 4096);
+    roomy(rt, store, &text, 4097);
     attempt(
+        rt,
         store,
         &mut kept,
         LENGTH,
@@ -71,97 +76,108 @@ fn many_lines(store: &mut [u8; LENGTH]) {
         1,
         front(&text, 4096),
     );
-    say(b"256 lines of 15 bytes; a byte more, which is line 257; 257 lines\n");
+    say(
+        rt,
+        b"256 lines of 15 bytes; a byte more, which is line 257; 257 lines\n",
+    );
     repeat(&mut text, b"[\"deny\",\"all\"]\n");
-    roomy(store, &text, 3840);
-    roomy(store, &text, 3841);
-    roomy(store, &text, 3855);
+    roomy(rt, store, &text, 3840);
+    roomy(rt, store, &text, 3841);
+    roomy(rt, store, &text, 3855);
 }
 
 // A second line of 2,048 bytes, by blanks at its end, and of one more, also where it is not JSON.
-fn long_lines(store: &mut [u8; LENGTH]) {
+fn long_lines(rt: &impl Print, store: &mut [u8; LENGTH]) {
     let mut line = [b' '; 2049];
-    say(b"Line 2 of 2,048 bytes; of 2,049; of 2,049 and not JSON\n");
+    say(
+        rt,
+        b"Line 2 of 2,048 bytes; of 2,049; of 2,049 and not JSON\n",
+    );
     text::paste(b"[\"deny\",\"all\"]", &mut line, 0);
-    second(store, front(&line, 2048));
-    second(store, &line);
+    second(rt, store, front(&line, 2048));
+    second(rt, store, &line);
     text::paste(b"{", &mut line, 0);
-    second(store, &line);
+    second(rt, store, &line);
 }
 
 // A second line with a topic of 256 bytes, and of one more, also where it is no rule, or not JSON.
-fn long_strings(store: &mut [u8; LENGTH]) {
+fn long_strings(rt: &impl Print, store: &mut [u8; LENGTH]) {
     let mut line = [b'a'; 283];
-    say(b"Line 2 with a string of 256 bytes; of 257; of 257 and no rule; of 257 and not JSON\n");
+    say(
+        rt,
+        b"Line 2 with a string of 256 bytes; of 257; of 257 and no rule; of 257 and not JSON\n",
+    );
     text::paste(b"[\"allow\",\"all\",\"all\",[\"", &mut line, 0);
     text::paste(b"\"]]", &mut line, 279);
-    second(store, front(&line, 282));
+    second(rt, store, front(&line, 282));
     text::paste(b"a\"]]", &mut line, 279);
-    second(store, &line);
+    second(rt, store, &line);
     text::paste(b"[\"b", &mut line, 0);
-    second(store, &line);
+    second(rt, store, &line);
     text::paste(b"{", &mut line, 0);
-    second(store, &line);
+    second(rt, store, &line);
 }
 
 // A second line with a member name of 256 bytes, and of one more.
-fn long_names(store: &mut [u8; LENGTH]) {
+fn long_names(rt: &impl Print, store: &mut [u8; LENGTH]) {
     let mut line = [b'a'; 273];
-    say(b"Line 2 with a member name of 256 bytes; of 257\n");
+    say(rt, b"Line 2 with a member name of 256 bytes; of 257\n");
     text::paste(b"[\"allow\",{\"", &mut line, 0);
     text::paste(b"\":0}]", &mut line, 267);
-    second(store, front(&line, 272));
+    second(rt, store, front(&line, 272));
     text::paste(b"a\":0}]", &mut line, 267);
-    second(store, &line);
+    second(rt, store, &line);
 }
 
 // A second line with 65 topics, and with 64.
-fn many_topics(store: &mut [u8; LENGTH]) {
+fn many_topics(rt: &impl Print, store: &mut [u8; LENGTH]) {
     let mut line = [0; 285];
-    say(b"Line 2 with 65 topics; with 64\n");
+    say(rt, b"Line 2 with 65 topics; with 64\n");
     repeat(&mut line, b"\"a\",");
     text::paste(b"[\"deny\",\"all\",\"all\",[   ", &mut line, 0);
     text::paste(b"]]", &mut line, 283);
-    second(store, &line);
+    second(rt, store, &line);
     text::paste(b"]]", &mut line, 279);
-    second(store, front(&line, 281));
+    second(rt, store, front(&line, 281));
 }
 
 // Second lines that are not JSON.
-fn not_json(store: &mut [u8; LENGTH]) {
+fn not_json(rt: &impl Print, store: &mut [u8; LENGTH]) {
     say(
+        rt,
         b"Line 2 not JSON: a word; an empty line; a bracket that stays open; a rule with an LF in it; a byte 0 behind it\n",
     );
-    second(store, b"deny");
-    second(store, b"\n");
-    second(store, b"[\"deny\",\"all\"");
-    second(store, b"[\"deny\",\n\"all\"]");
-    second(store, b"[\"deny\",\"all\"]\x00");
+    second(rt, store, b"deny");
+    second(rt, store, b"\n");
+    second(rt, store, b"[\"deny\",\"all\"");
+    second(rt, store, b"[\"deny\",\n\"all\"]");
+    second(rt, store, b"[\"deny\",\"all\"]\x00");
 }
 
 // Second lines that are no rules, and at last one that is.
-fn no_rules(store: &mut [u8; LENGTH]) {
+fn no_rules(rt: &impl Print, store: &mut [u8; LENGTH]) {
     say(
+        rt,
         b"Line 2 no rule: an object; access alone; another word; a control that is none; no valid filter; line 3 not JSON either\n",
     );
-    second(store, b"{}");
-    second(store, b"[\"deny\"]");
-    second(store, b"[\"refuse\",\"all\"]");
-    second(store, b"[\"deny\",\"all\",\"read\"]");
-    second(store, b"[\"deny\",\"all\",\"all\",[\"a#\"]]");
-    second(store, b"[]\ndeny");
-    say(b"Two rules\n");
-    second(store, b"[\"allow\",\"all\"]");
+    second(rt, store, b"{}");
+    second(rt, store, b"[\"deny\"]");
+    second(rt, store, b"[\"refuse\",\"all\"]");
+    second(rt, store, b"[\"deny\",\"all\",\"read\"]");
+    second(rt, store, b"[\"deny\",\"all\",\"all\",[\"a#\"]]");
+    second(rt, store, b"[]\ndeny");
+    say(rt, b"Two rules\n");
+    second(rt, store, b"[\"allow\",\"all\"]");
 }
 
 // All of them. The first open makes a store of bytes that are none; the later ones find one.
-pub(crate) fn texts() {
+pub(crate) fn texts(rt: &impl Print) {
     let mut store = [255; LENGTH];
-    many_lines(&mut store);
-    long_lines(&mut store);
-    long_strings(&mut store);
-    long_names(&mut store);
-    many_topics(&mut store);
-    not_json(&mut store);
-    no_rules(&mut store);
+    many_lines(rt, &mut store);
+    long_lines(rt, &mut store);
+    long_strings(rt, &mut store);
+    long_names(rt, &mut store);
+    many_topics(rt, &mut store);
+    not_json(rt, &mut store);
+    no_rules(rt, &mut store);
 }

@@ -3,12 +3,12 @@ ghost use Rattle.std.specs.Prelude.{◌≤◌, length};
 
 use crate::Run;
 use crate::writing::{no_line, say, start, written};
-use libc::STDERR_FILENO;
 use lines::client::client_answer;
 use lines::input::{take_byte, take_rule_byte};
 use lines::output::refused_at;
 use lines::{Rules, RulesTaken, Said, Taken};
 use rule::Refusal;
+use std::io::{Eprint, Read, Write};
 use text::front;
 
 // A line has at most 2,048 bytes and the rules 32,768. The first line and the rules have a byte more of room, so that what is too long stays so.
@@ -74,9 +74,9 @@ fn said(run: Run, header: &[u8], rules: &[u8], line: &[u8]) -> Said {
 }
 
 // One byte of the lines behind them.
-fn take_in_lines(
+fn take_in_lines<W: Write>(
     mut run: Run,
-    output: i32,
+    output: &mut W,
     header: &[u8],
     rules: &[u8],
     buffer: &mut [u8],
@@ -95,9 +95,9 @@ fn take_in_lines(
 }
 
 // One byte of the input.
-fn take(
+fn take<W: Write>(
     run: Run,
-    output: i32,
+    output: &mut W,
     header: &mut [u8],
     rules: &mut [u8],
     buffer: &mut [u8],
@@ -114,9 +114,9 @@ fn take(
 }
 
 // A piece of the input.
-fn take_piece(
+fn take_piece<W: Write>(
     run: Run,
-    output: i32,
+    output: &mut W,
     header: &mut [u8],
     rules: &mut [u8],
     buffer: &mut [u8],
@@ -135,9 +135,9 @@ fn take_piece(
 }
 
 // The end of the input, where the last line may lack its LF.
-fn finish(
+fn finish<W: Write>(
     run: Run,
-    output: i32,
+    output: &mut W,
     header: &[u8],
     rules: &[u8],
     buffer: &[u8],
@@ -162,23 +162,22 @@ fn finish(
 }
 
 // Reads once, and writes out what came of it. A read that fails ends the input where it stands.
-fn read_some(
+fn read_some<E: Eprint, R: Read, W: Write>(
+    rt: &E,
     mut run: Run,
-    input: i32,
-    output: i32,
+    input: &mut R,
+    output: &mut W,
     header: &mut [u8],
     rules: &mut [u8],
     buffer: &mut [u8],
     out: &mut [u8],
 ) -> Run {
-    let mut piece = io::buffer();
-    let got = libc::read(input, &mut piece);
-    if got < 0 {
-        io::write_all(STDERR_FILENO, b"client: cannot read\n");
+    let mut piece = [0u8; 4096];
+    let Ok(n) = input.read(&mut piece) else {
+        let _ = rt.eprintln("client: cannot read");
         run.more = false;
         return run;
-    }
-    let n = io::count(got, &piece);
+    };
     if n == 0 {
         let mut last = written(finish(run, output, header, rules, buffer, out), output, out);
         last.more = false;
@@ -192,15 +191,16 @@ fn read_some(
 }
 
 // Answers every question of the input. The loop counts its turns down, from a number that no run uses up, since a proved loop has to end.
-pub fn ask_for_client(input: i32, output: i32) {
+pub fn ask_for_client<E: Eprint, R: Read, W: Write>(rt: &E, input: &mut R, output: &mut W) {
     let mut header = [0u8; HEADER];
     let mut rules = [0u8; RULES];
     let mut buffer = [0u8; LINE];
-    let mut out = io::buffer();
+    let mut out = [0u8; 4096];
     let mut run = start(false);
     let mut turns = u64::MAX;
     while turns > 0 && run.more {
         run = read_some(
+            rt,
             run,
             input,
             output,

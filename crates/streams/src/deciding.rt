@@ -3,12 +3,12 @@ ghost use Rattle.std.specs.Prelude.{◌≤◌, length};
 
 use crate::Run;
 use crate::writing::{put, say, start, written};
-use libc::STDERR_FILENO;
 use lines::answer::answer;
 use lines::input::{take_byte, take_rule_byte};
 use lines::output::{malformed, refused_at};
 use lines::{RulesTaken, Taken};
 use rule::Refusal;
+use std::io::{Eprint, Read, Write};
 use store::Opened;
 use store::opening::open;
 use text::front;
@@ -28,14 +28,26 @@ const STORE: usize = 47888;
 const BUFFER: usize = 2048;
 
 // The run over, with one line of output: the rules are refused.
-fn refused(mut run: Run, output: i32, out: &mut [u8], cause: Refusal, line: usize) -> Run {
+fn refused<W: Write>(
+    mut run: Run,
+    output: &mut W,
+    out: &mut [u8],
+    cause: Refusal,
+    line: usize,
+) -> Run {
     run.waiting = put(output, out, run.waiting, 0, refused_at(cause, line));
     run.more = false;
     run
 }
 
 // The rules are whole: the store is opened for them.
-fn open_for(mut run: Run, output: i32, store: &mut [u8], text: &[u8], out: &mut [u8]) -> Run {
+fn open_for<W: Write>(
+    mut run: Run,
+    output: &mut W,
+    store: &mut [u8],
+    text: &[u8],
+    out: &mut [u8],
+) -> Run {
     match open(store, R, F, E, N, text) {
         Opened::Refused(cause, line) => refused(run, output, out, cause, line),
         Opened::Done => {
@@ -46,9 +58,9 @@ fn open_for(mut run: Run, output: i32, store: &mut [u8], text: &[u8], out: &mut 
 }
 
 // One byte of the rules.
-fn take_in_rules(
+fn take_in_rules<W: Write>(
     mut run: Run,
-    output: i32,
+    output: &mut W,
     store: &mut [u8],
     buffer: &mut [u8],
     out: &mut [u8],
@@ -66,9 +78,9 @@ fn take_in_rules(
 }
 
 // One byte of the lines behind them.
-fn take_in_lines(
+fn take_in_lines<W: Write>(
     mut run: Run,
-    output: i32,
+    output: &mut W,
     store: &mut [u8],
     buffer: &mut [u8],
     out: &mut [u8],
@@ -85,7 +97,14 @@ fn take_in_lines(
     }
 }
 
-fn take(run: Run, output: i32, store: &mut [u8], buffer: &mut [u8], out: &mut [u8], b: u8) -> Run {
+fn take<W: Write>(
+    run: Run,
+    output: &mut W,
+    store: &mut [u8],
+    buffer: &mut [u8],
+    out: &mut [u8],
+    b: u8,
+) -> Run {
     if !run.more {
         return run;
     }
@@ -96,9 +115,9 @@ fn take(run: Run, output: i32, store: &mut [u8], buffer: &mut [u8], out: &mut [u
 }
 
 // A piece of the input.
-fn take_piece(
+fn take_piece<W: Write>(
     run: Run,
-    output: i32,
+    output: &mut W,
     store: &mut [u8],
     buffer: &mut [u8],
     out: &mut [u8],
@@ -116,7 +135,13 @@ fn take_piece(
 }
 
 // The end of the input, where the last line may lack its LF.
-fn finish(run: Run, output: i32, store: &mut [u8], buffer: &[u8], out: &mut [u8]) -> Run {
+fn finish<W: Write>(
+    run: Run,
+    output: &mut W,
+    store: &mut [u8],
+    buffer: &[u8],
+    out: &mut [u8],
+) -> Run {
     if !run.more {
         return run;
     }
@@ -135,22 +160,21 @@ fn finish(run: Run, output: i32, store: &mut [u8], buffer: &[u8], out: &mut [u8]
 }
 
 // Reads once, and writes out what came of it. A read that fails ends the input where it stands.
-fn read_some(
+fn read_some<E: Eprint, R: Read, W: Write>(
+    rt: &E,
     mut run: Run,
-    input: i32,
-    output: i32,
+    input: &mut R,
+    output: &mut W,
     store: &mut [u8],
     buffer: &mut [u8],
     out: &mut [u8],
 ) -> Run {
-    let mut piece = io::buffer();
-    let got = libc::read(input, &mut piece);
-    if got < 0 {
-        io::write_all(STDERR_FILENO, b"decide: cannot read\n");
+    let mut piece = [0u8; 4096];
+    let Ok(n) = input.read(&mut piece) else {
+        let _ = rt.eprintln("decide: cannot read");
         run.more = false;
         return run;
-    }
-    let n = io::count(got, &piece);
+    };
     if n == 0 {
         let mut last = written(finish(run, output, store, buffer, out), output, out);
         last.more = false;
@@ -166,14 +190,14 @@ fn read_some(
 // Answers every line of the input.
 //
 // A proved loop has to end, and nothing says that the input does. So the loop counts its turns down, from a number that no run uses up.
-pub fn decide(input: i32, output: i32) {
+pub fn decide<E: Eprint, R: Read, W: Write>(rt: &E, input: &mut R, output: &mut W) {
     let mut store = [0u8; STORE];
     let mut buffer = [0u8; BUFFER];
-    let mut out = io::buffer();
+    let mut out = [0u8; 4096];
     let mut run = start(true);
     let mut turns = u64::MAX;
     while turns > 0 && run.more {
-        run = read_some(run, input, output, &mut store, &mut buffer, &mut out);
+        run = read_some(rt, run, input, output, &mut store, &mut buffer, &mut out);
         turns -= 1;
     }
 }

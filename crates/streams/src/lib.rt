@@ -1,5 +1,6 @@
-// The programs on two descriptors: bytes to lines, a line to its answer, answers to buffered output. Nothing is decided here; `lines` does.
+// The programs on a reader and a writer: bytes to lines, a line to its answer, answers to buffered output. Nothing is decided here; `lines` does.
 #![tactic(auto)]
+
 pub mod clients;
 pub mod deciding;
 mod writing;

@@ -5,15 +5,22 @@ ghost use Rattle.streams.specs.Writing as spec;
 use crate::Run;
 use lines::output::put_line;
 use lines::{Begun, Put, Rules, Said};
+use std::io::Write;
 use text::front;
 
-// Writes out what waits.
-fn flush(output: i32, out: &[u8], waiting: usize) {
-    io::write_all(output, front(out, waiting));
+// Writes out what waits. What cannot be written is lost; the run goes on.
+fn flush<W: Write>(output: &mut W, out: &[u8], waiting: usize) {
+    let _ = output.write_all(front(out, waiting));
 }
 
 // The line of output for the line of input with this number, behind those that wait; hands back how many bytes wait then.
-pub(crate) fn put(output: i32, out: &mut [u8], waiting: usize, number: u64, said: Said) -> usize {
+pub(crate) fn put<W: Write>(
+    output: &mut W,
+    out: &mut [u8],
+    waiting: usize,
+    number: u64,
+    said: Said,
+) -> usize {
     if let Put::End(end) = put_line(number, said, out, waiting) {
         return end;
     }
@@ -54,7 +61,7 @@ pub fn start(headed: bool) -> Run
 }
 
 // What is said of the next line.
-pub(crate) fn say(mut run: Run, output: i32, out: &mut [u8], said: Said) -> Run {
+pub(crate) fn say<W: Write>(mut run: Run, output: &mut W, out: &mut [u8], said: Said) -> Run {
     run.number = std::num::wrapping_add_u64(run.number, 1);
     run.waiting = put(output, out, run.waiting, run.number, said);
     let next = no_line();
@@ -63,7 +70,7 @@ pub(crate) fn say(mut run: Run, output: i32, out: &mut [u8], said: Said) -> Run 
 }
 
 // Writes out what waits.
-pub(crate) fn written(mut run: Run, output: i32, out: &[u8]) -> Run {
+pub(crate) fn written<W: Write>(mut run: Run, output: &mut W, out: &[u8]) -> Run {
     flush(output, out, run.waiting);
     run.waiting = 0;
     run

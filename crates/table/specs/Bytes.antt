@@ -1,5 +1,5 @@
 -- Tables as bytes: document 01, Store. A table is a stretch of the store; its rows are its whole rows of one size, the used ones first.
-use Rattle.std.specs.Prelude.{ℕ, zero, suc, ◌+◌, ◌*◌, ◌-◌, ◌/◌, ◌%◌, Bool, true, false, ◌&&◌, not, cond, List, [], ◌∷◌, ◌++◌, eqb, leb, length, get_or, take, drop, replicate}
+use Rattle.std.specs.Prelude.{ℕ, zero, suc, ◌+◌, ◌*◌, ◌-◌, ◌/◌, ◌%◌, Bool, true, ◌&&◌, not, cond, List, [], ◌∷◌, ◌++◌, eqb, leb, length, get_or, take, drop, replicate}
 use Rattle.text.specs.Text.{same, fits_at, pasted}
 use Rattle.table.specs.Table.{some_row}
 use Rattle.table.specs.declared.Pushed.{Pushed}

@@ -1,6 +1,7 @@
 // Tables of rows as bytes (document 01, Store). A table is a stretch of the store that is lent on as a part of its own; its rows are
 // the part's whole rows of one size, the used ones first. Nothing here knows what a row says.
 #![tactic(auto)]
+
 mod sorting;
 mod words;
 

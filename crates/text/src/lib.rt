@@ -1,5 +1,6 @@
 // Equality, search and replace on bytes (document 01, Bytes). Every crate above compares and fills its texts here.
 #![tactic(auto)]
+
 ghost use Rattle.std.specs.Prelude.{◌≡◌, ◌++◌, ◌+◌, ◌≤◌, length, take, drop};
 ghost use Rattle.text.specs.Text as spec;
 

@@ -1,5 +1,6 @@
 // Topic filters: levels, validity, and the two ways of matching, T and P (document 01; document 02, b; topic.rs, trie.rs).
 #![tactic(auto)]
+
 ghost use Rattle.std.specs.Prelude.{◌≡◌, length};
 ghost use Rattle.topic.specs.Topic as spec;
 ghost use Rattle.topic.specs.Walk as places;

@@ -4,7 +4,7 @@ ghost use Rattle.std.specs.Prelude.{◌<◌, ◌≤◌, length};
 
 use crate::judging::{Judged, judge};
 use crate::tallies::Tallies;
-use libc::{STDIN_FILENO, STDOUT_FILENO};
+use std::io::Read;
 
 // What is known between two bytes of the input.
 #[derive(Drop)]
@@ -18,39 +18,44 @@ pub struct Run {
     pub tallies: Tallies,
 }
 
+// Writes bytes as they are. What cannot be written is lost; the run goes on.
+pub(crate) fn say(rt: &impl Print, bytes: &[u8]) {
+    let _ = rt.write_all(bytes);
+}
+
 // Writes a line, or the last of one.
-fn write_line(line: &[u8]) {
-    io::write_all(STDOUT_FILENO, line);
-    io::write_all(STDOUT_FILENO, b"\n");
+fn write_line(rt: &impl Print, line: &[u8]) {
+    say(rt, line);
+    say(rt, b"\n");
 }
 
 // What stands before a malformed line.
-fn write_malformed() {
-    io::write_all(STDOUT_FILENO, b"malformed: ");
+fn write_malformed(rt: &impl Print) {
+    say(rt, b"malformed: ");
 }
 
 // Writes a line that doesn't agree, in full.
-fn report(judged: Judged, line: &[u8]) {
+fn report(rt: &impl Print, judged: Judged, line: &[u8]) {
     match judged {
         Judged::Agrees(_) => {}
         Judged::Differs(_) => {
-            write_line(line);
+            write_line(rt, line);
         }
         Judged::Malformed => {
-            write_malformed();
-            write_line(line);
+            write_malformed(rt);
+            write_line(rt, line);
         }
     }
 }
 
 // The end of a line: `line` is what the buffer has of it.
-fn end_line(run: Run, line: &[u8]) -> Run
+fn end_line(rt: &impl Print, run: Run, line: &[u8]) -> Run
     ensures { result.length ≤ 0 }
 {
     let tallies = run.tallies;
     let more = run.more;
     if run.long {
-        write_line(line);
+        write_line(rt, line);
         return Run {
             length: 0,
             long: false,
@@ -59,7 +64,7 @@ fn end_line(run: Run, line: &[u8]) -> Run
         };
     }
     let judged = judge(line);
-    report(judged, line);
+    report(rt, judged, line);
     let tallies = tallies.count(judged);
     Run {
         length: 0,
@@ -70,7 +75,7 @@ fn end_line(run: Run, line: &[u8]) -> Run
 }
 
 // One byte of the input.
-fn take_byte(run: Run, buffer: &mut [u8], b: u8) -> Run
+fn take_byte(rt: &impl Print, run: Run, buffer: &mut [u8], b: u8) -> Run
     requires { (run.length ≤ length buffer.old) × (0 < length buffer.old) }
     ensures { result.length ≤ length buffer.new }
 {
@@ -79,7 +84,7 @@ fn take_byte(run: Run, buffer: &mut [u8], b: u8) -> Run
     let more = run.more;
     let long = run.long;
     if b == b'\n' {
-        return end_line(run, &buffer[..length]);
+        return end_line(rt, run, &buffer[..length]);
     }
     if length < buffer.len() {
         buffer[length] = b;
@@ -91,9 +96,9 @@ fn take_byte(run: Run, buffer: &mut [u8], b: u8) -> Run
         };
     }
     if !long {
-        write_malformed();
+        write_malformed(rt);
     }
-    io::write_all(STDOUT_FILENO, buffer);
+    say(rt, buffer);
     buffer[0] = b;
     Run {
         length: 1,
@@ -104,63 +109,69 @@ fn take_byte(run: Run, buffer: &mut [u8], b: u8) -> Run
 }
 
 // A piece of the input.
-fn take_piece(run: Run, buffer: &mut [u8], piece: &[u8]) -> Run
+fn take_piece(rt: &impl Print, run: Run, buffer: &mut [u8], piece: &[u8]) -> Run
     requires { (run.length ≤ length buffer.old) × (0 < length buffer.old) }
     ensures { result.length ≤ length buffer.new }
 {
     let mut run = run;
     let mut i = 0;
     while i < piece.len() {
-        run = take_byte(run, buffer, piece[i]);
+        run = take_byte(rt, run, buffer, piece[i]);
         i += 1;
     }
     run
 }
 
+// The run, with no more input to come.
+fn ended(run: Run) -> Run
+    ensures { result.length ≡ run.length }
+{
+    let tallies = run.tallies;
+    Run {
+        length: run.length,
+        long: run.long,
+        more: false,
+        tallies,
+    }
+}
+
 // Reads once. An error ends the input.
-fn read_some(run: Run, buffer: &mut [u8]) -> Run
+fn read_some(rt: &impl Print, input: &mut impl Read, run: Run, buffer: &mut [u8]) -> Run
     requires { (run.length ≤ length buffer.old) × (0 < length buffer.old) }
     ensures { result.length ≤ length buffer.new }
 {
-    let mut piece = io::buffer();
-    let got = libc::read(STDIN_FILENO, &mut piece);
-    if got <= 0 {
-        if got < 0 {
-            io::write_all(STDOUT_FILENO, b"cannot read\n");
+    let mut piece = [0u8; 4096];
+    match input.read(&mut piece) {
+        Ok(0) => ended(run),
+        Ok(n) => take_piece(rt, run, buffer, &piece[..n]),
+        Err(_) => {
+            say(rt, b"cannot read\n");
+            ended(run)
         }
-        let tallies = run.tallies;
-        return Run {
-            length: run.length,
-            long: run.long,
-            more: false,
-            tallies,
-        };
     }
-    let n = io::count(got, &piece);
-    take_piece(run, buffer, &piece[..n])
 }
 
 // The end of the input, where the last line may lack its LF.
-fn finish(run: Run, buffer: &[u8])
+fn finish(rt: &impl Print, run: Run, buffer: &[u8])
     requires { run.length ≤ length buffer.now }
 {
     let length = run.length;
     let tallies = run.tallies;
     if length == 0 && !run.long {
-        tallies.print();
+        tallies.print(rt);
         return;
     }
-    let run = end_line(run, &buffer[..length]);
+    let run = end_line(rt, run, &buffer[..length]);
     let tallies = run.tallies;
-    tallies.print();
+    tallies.print(rt);
 }
 
 // Judges every line of standard input, and prints the tallies.
 //
 // A proved loop has to end, and nothing says that the input does. So the loop counts its turns down, from a number that no run
 // uses up.
-pub(crate) fn replay() {
-    let mut buffer = io::buffer();
+pub(crate) fn replay(rt: &impl Print, input: &mut impl Read) {
+    let mut buffer = [0u8; 4096];
     let mut run = Run {
         length: 0,
         long: false,
@@ -169,8 +180,8 @@ pub(crate) fn replay() {
     };
     let mut turns = u64::MAX;
     while turns > 0 && run.more {
-        run = read_some(run, &mut buffer);
+        run = read_some(rt, input, run, &mut buffer);
         turns -= 1;
     }
-    finish(run, &buffer);
+    finish(rt, run, &buffer);
 }

@@ -2,6 +2,7 @@
 // `yes`, with a TAB between the fields (oracle/README.md says how they are made), writes each line that this port answers otherwise, and,
 // at the end, how many of each kind agree.
 #![tactic(auto)]
+
 mod asking;
 mod clients;
 mod fields;
@@ -9,6 +10,6 @@ mod input;
 mod judging;
 mod tallies;
 
-fn main() {
-    input::replay();
+fn main(rt: HostRuntime) {
+    input::replay(&rt, &mut rt.stdin());
 }

@@ -3,8 +3,8 @@
 ghost use Rattle.std.specs.Prelude.{◌≡◌, ◌<◌};
 ghost use Rattle.vectors.specs.Tallies as spec;
 
+use crate::input::say;
 use crate::judging::{Judged, Kind};
-use libc::STDOUT_FILENO;
 
 // The number of kinds, and the letter of each, in the order of `place`.
 const KINDS: usize = 9;
@@ -45,12 +45,12 @@ pub struct Tallies {
 }
 
 // Writes one tally, as `V 12 of 12 agree`.
-fn print_one(letter: u8, agreed: u64, asked: u64) {
-    io::write_all(STDOUT_FILENO, &[letter, b' ']);
-    io::print_decimal(STDOUT_FILENO, agreed);
-    io::write_all(STDOUT_FILENO, b" of ");
-    io::print_decimal(STDOUT_FILENO, asked);
-    io::write_all(STDOUT_FILENO, b" agree\n");
+fn print_one(rt: &impl Print, letter: u8, agreed: u64, asked: u64) {
+    say(rt, &[letter, b' ']);
+    let _ = rt.print(agreed);
+    say(rt, b" of ");
+    let _ = rt.print(asked);
+    say(rt, b" agree\n");
 }
 
 impl Tallies {
@@ -85,11 +85,11 @@ impl Tallies {
     }
 
     // Writes the tallies, a line a kind.
-    pub(crate) fn print(self) {
+    pub(crate) fn print(self, rt: &impl Print) {
         let agreed = self.agreed;
         let asked = self.asked;
         for i in 0..KINDS {
-            print_one(LETTERS[i], agreed[i], asked[i]);
+            print_one(rt, LETTERS[i], agreed[i], asked[i]);
         }
     }
 }

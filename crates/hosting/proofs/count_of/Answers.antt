@@ -26,4 +26,4 @@ returns-else-eq-2 c =
 
 pub returns-in_default : goal.returns-in_default
 returns-in_default c =
-    count_other _ _ c.in_default.keys3
+    count_other _ _ c.in_default.not-Template c.in_default.not-EqTemplate

@@ -17,4 +17,4 @@ returns c =
     c.connect_number.ensures
     ∙ ap packed
     (c.connect.ensures
-    ∙ (λ i. ask (connect c.args.earlier (record { id = c.args.id.now; c.given_text.ensures = c.given_text.ensures i; c.given_text-2.ensures = c.given_text-2.ensures i; c.given_text-3.ensures = c.given_text-3.ensures i; protocol = some c.args.protocol })) c.args.store.now))
+    ∙ (λ i. ask (connect c.args.earlier (record { id = c.args.id.now; name = c.given_text.ensures i; password = c.given_text-2.ensures i; address = c.given_text-3.ensures i; protocol = some c.args.protocol })) c.args.store.now))

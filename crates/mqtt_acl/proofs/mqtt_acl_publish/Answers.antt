@@ -19,4 +19,4 @@ returns c =
     c.publish_number.ensures
     ∙ ap packed
     (c.publish.ensures
-    ∙ (λ i. ask (publish c.args.earlier (record { id = c.args.id.now; c.given_text.ensures = c.given_text.ensures i; c.given_text-2.ensures = c.given_text-2.ensures i; c.given_text-3.ensures = c.given_text-3.ensures i; protocol = protocol i }) c.args.topic.now (c.flag.ensures i)) c.args.store.now))
+    ∙ (λ i. ask (publish c.args.earlier (record { id = c.args.id.now; name = c.given_text.ensures i; password = c.given_text-2.ensures i; address = c.given_text-3.ensures i; protocol = protocol i }) c.args.topic.now (c.flag.ensures i)) c.args.store.now))

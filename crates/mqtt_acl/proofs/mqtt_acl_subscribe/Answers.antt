@@ -19,4 +19,4 @@ returns c =
     c.subscribe_number.ensures
     ∙ ap packed
     (c.subscribe.ensures
-    ∙ (λ i. ask (subscribe c.args.earlier (record { id = c.args.id.now; c.given_text.ensures = c.given_text.ensures i; c.given_text-2.ensures = c.given_text-2.ensures i; c.given_text-3.ensures = c.given_text-3.ensures i; protocol = protocol i }) c.args.topic.now c.args.qos) c.args.store.now))
+    ∙ (λ i. ask (subscribe c.args.earlier (record { id = c.args.id.now; name = c.given_text.ensures i; password = c.given_text-2.ensures i; address = c.given_text-3.ensures i; protocol = protocol i }) c.args.topic.now c.args.qos) c.args.store.now))

@@ -1,7 +1,6 @@
 -- The offset of what `first_element` answers. Assumes nothing.
 use mathlib.Core.Path.{ap, ◌∙◌}
 use Rattle.reader.specs.Reader.{offset_of, first_offset}
-use borrow.Author.Rules.{rules}
 use Rattle.reader.proofs.first_at.Goals as goal
 
 pub returns : goal.returns

@@ -1,7 +1,6 @@
 -- The offset of what `next_item` answers. Assumes nothing.
 use mathlib.Core.Path.{ap, ◌∙◌}
 use Rattle.reader.specs.Reader.{offset_of, next_offset}
-use borrow.Author.Rules.{rules}
 use Rattle.reader.proofs.next_at.Goals as goal
 
 pub returns : goal.returns

@@ -3,7 +3,6 @@ use mathlib.Core.Path.{sym, ap}
 use mathlib.Core.Bool.{Bool, cond}
 use lib.ListN.{length}
 use borrow.Author.Tests.{lt-ltb, le-ltb}
-use Rattle.json_text.specs.declared.Place.{Place}
 use Rattle.json_text.specs.declared.Place.TheVariants.{At, Nowhere}
 use Rattle.reader.specs.Reader.{place_at}
 use Rattle.reader.proofs.place_at.Goals as goal

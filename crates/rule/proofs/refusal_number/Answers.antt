@@ -1,6 +1,5 @@
 -- Each arm computes. Assumes nothing.
 use Rattle.rule.specs.Refusals.{number}
-use borrow.Author.Rules.{rules}
 use Rattle.rule.proofs.refusal_number.Goals as goal
 
 pub returns-in-TooLong : goal.returns-in-TooLong

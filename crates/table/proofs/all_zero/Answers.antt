@@ -1,10 +1,8 @@
 -- `table::all_zero` meets its contract. The loop's invariant: all bytes are zero if `zero` holds and those from `i` on are zero, and `i` is less than
 -- a stretch behind the last one. The measure is what is left up to that. Assumes nothing.
-use Prim.Native.Nat.{◌+◌, ◌-◌, ◌≤◌}
-use mathlib.Core.Path.{◌≡◌, refl, sym, ap, ◌∙◌}
-use mathlib.Core.Bool.{◌&&◌}
+use Prim.Native.Nat.{◌-◌}
+use mathlib.Core.Path.{refl, sym, ap, ◌∙◌}
 use native.Mathlib.Omega.{arith}
-use borrow.Author.Rules.{rules}
 use lib.ListN.{length, take, drop, length-drop}
 use lib.Seq.{take_all}
 use Rattle.table.specs.Bytes.{zeros}

@@ -1,10 +1,9 @@
 -- `table::clear` meets its contract. The loop's invariant: `i` is from `from` to `to`, or `from` where `to` is before it, and the bytes that it
 -- has passed are set (`clearing`). The measure is what is left up to `to`. Assumes nothing.
-use Prim.Native.Nat.{◌-◌, ◌≤◌}
-use mathlib.Core.Path.{◌≡◌, refl, sym, ◌∙◌}
+use mathlib.Core.Path.{refl, sym, ◌∙◌}
 use native.Mathlib.Omega.{arith}
-use lib.ListN.{length, length-set}
-use Rattle.table.proofs.ByteLaws.{clearing, clearing_none, clearing_more, clearing_all, cleared_not}
+use lib.ListN.{length-set}
+use Rattle.table.proofs.ByteLaws.{clearing_none, clearing_more, clearing_all, cleared_not}
 use Rattle.table.proofs.clear.Goals as goal
 
 pub returns-then-buffer-to : goal.returns-then-buffer-to

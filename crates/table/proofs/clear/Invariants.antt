@@ -1,10 +1,9 @@
 -- `table::clear` meets its contract. The loop's invariant: `i` is from `from` to `to`, or `from` where `to` is before it, and the bytes that it
 -- has passed are set (`clearing`). The measure is what is left up to `to`. Assumes nothing.
 use Prim.Native.Nat.{◌-◌, ◌≤◌}
-use mathlib.Core.Path.{◌≡◌, refl, sym, ◌∙◌}
-use native.Mathlib.Omega.{arith}
-use lib.ListN.{length, length-set}
-use Rattle.table.proofs.ByteLaws.{clearing, clearing_none, clearing_more, clearing_all, cleared_not}
+use mathlib.Core.Path.{◌≡◌}
+use lib.ListN.{length}
+use Rattle.table.proofs.ByteLaws.{clearing}
 use Rattle.table.proofs.clear.Given as goal
 
 abbrev pub invariant-loop-i : goal.invariant-loop-i

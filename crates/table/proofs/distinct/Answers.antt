@@ -3,7 +3,6 @@
 use native.Mathlib.Omega.{arith}
 use lib.ListN.{length}
 use Rattle.table.proofs.ByteLaws.{rows_fit}
-use borrow.Author.Rules.{rules}
 use Rattle.table.proofs.distinct.Goals as goal
 
 pub sorted_few-requires : goal.sorted_few-requires

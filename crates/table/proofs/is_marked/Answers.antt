@@ -1,6 +1,5 @@
 -- `table::is_marked` meets its contract: a mark that is missing counts as 0. Assumes nothing.
 use mathlib.Core.Path.{refl}
-use borrow.Author.Rules.{rules}
 use lib.ListN.{get_or-eq_default}
 use Rattle.table.specs.Bytes.{is_marked}
 use Rattle.table.proofs.is_marked.Goals as goal

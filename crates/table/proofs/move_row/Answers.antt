@@ -1,11 +1,10 @@
 -- `table::move_row` meets its contract. The loop's invariant: `i` is at most the size, and the table is what it was but that its bytes from `to` on
 -- are the first `i` of those that were from `from` on (`paste` of lib.Seq). The measure is what is left of the size. Assumes nothing.
-use Prim.Native.Nat.{◌-◌, ◌≤◌}
 use mathlib.Core.Path.{◌≡◌, refl, sym, ◌∙◌}
 use mathlib.Core.List.{append_assoc}
 use native.Mathlib.Omega.{arith}
-use lib.ListN.{length, take, drop, length-set}
-use lib.Seq.{paste, paste-zero}
+use lib.ListN.{take, drop, length-set}
+use lib.Seq.{paste-zero}
 use Rattle.table.proofs.ByteLaws.{moved_here, moved_more}
 use Rattle.table.proofs.move_row.Goals as goal
 

@@ -2,7 +2,6 @@
 use Prim.Native.Nat.{◌+◌}
 use mathlib.Core.Path.{sym}
 use native.Mathlib.Omega.{arith}
-use borrow.Author.Rules.{rules}
 use Rattle.table.proofs.ByteLaws.{number_missing, number_low, number-drop}
 use Rattle.table.proofs.number_at.Goals as goal
 

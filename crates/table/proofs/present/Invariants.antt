@@ -1,13 +1,9 @@
 -- `table::present` meets its contract. The loop's invariant: `at` is at most the table's length, and the row is one of those left from `at`
 -- on if and only if it is one of the first `used`. The measure is what is left of `used`. Assumes nothing.
 use Prim.Native.Nat.{◌-◌, ◌≤◌}
-use mathlib.Core.Path.{◌≡◌, sym, ◌∙◌}
-use native.Mathlib.Nat.{sub-zero, add-sub_cancel_left}
-use native.Mathlib.Omega.{arith}
-use borrow.Author.Rules.{rules}
+use mathlib.Core.Path.{◌≡◌}
 use lib.ListN.{length, drop}
 use Rattle.table.specs.Bytes.{present}
-use Rattle.table.proofs.RowLaws.{present_here, present_past, present_short, present_end}
 use Rattle.table.proofs.present.Given as goal
 
 abbrev pub invariant-loop-i : goal.invariant-loop-i

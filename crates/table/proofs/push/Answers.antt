@@ -2,7 +2,6 @@
 -- whether there is room for another. Assumes nothing.
 use mathlib.Core.Path.{sym, ◌∙◌}
 use native.Mathlib.Omega.{arith}
-use borrow.Author.Rules.{rules}
 use lib.ListN.{length}
 use Rattle.table.proofs.ByteLaws.{row_fits, row_not}
 use Rattle.table.proofs.RowLaws.{push_present, push_fits, push_full, push_empty}

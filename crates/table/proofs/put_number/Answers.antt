@@ -1,7 +1,6 @@
 -- `table::put_number` meets its contract: without room for both bytes nothing is written. Assumes nothing.
 use mathlib.Core.Path.{sym}
 use native.Mathlib.Omega.{arith}
-use borrow.Author.Rules.{rules}
 use Rattle.table.specs.Bytes.{u16}
 use Rattle.text.proofs.Laws.{pasted_not}
 use Rattle.table.proofs.ByteLaws.{put_u16}

@@ -2,11 +2,10 @@
 -- on the table is as it was. The measure is what is left of `used`. Assumes nothing.
 use Prim.Native.Nat.{◌-◌}
 use mathlib.Core.Path.{sym, ◌∙◌}
-use mathlib.Core.Logic.{⊎_elim}
 use native.Mathlib.Omega.{arith}
-use borrow.Author.Rules.{rules}
-use Rattle.table.proofs.RowLaws.{rows_short, rows_end, Removing, removing_none, removing_marked, removing_moved, removing_end}
+use Rattle.table.proofs.RowLaws.{rows_short, rows_end, removing_none, removing_marked, removing_moved, removing_end}
 use Rattle.table.proofs.remove.Goals as goal
+use Rattle.table.proofs.remove.Goals.{then-is_marked, else-is_marked}
 
 pub loop-i-init : goal.loop-i-init
 loop-i-init c =
@@ -20,10 +19,10 @@ returns-then-table-from c =
 
 pub loop-i-preserved : goal.loop-i-preserved
 loop-i-preserved c =
-    ⊎_elim
-    (λ w. rw (w.1, w.2, w.3, w.4) (removing_marked c.loop-i.invariant c.loop-i-test.true (omega arith) (sym c.is_marked.ensures ∙ w.0.taken)))
-    (λ w. rw (w.5, w.2.ensures, w.6, w.7, w.8) (removing_moved c.loop-i.invariant c.loop-i-test.true (omega arith) (sym c.is_marked.ensures ∙ w.0.left)))
-    c.if-is_marked.branch
+    elim c.if-is_marked.branch [
+      | then-is_marked w ↦ rw (w.table-is, w.from-is, w.to-is, w.stay-is) (removing_marked c.loop-i.invariant c.loop-i-test.true (omega arith) (sym c.is_marked.ensures ∙ w.if-is_marked.true))
+      | else-is_marked w ↦ rw (w.table-is, w.move_row.ensures, w.from-is, w.to-is, w.stay-is) (removing_moved c.loop-i.invariant c.loop-i-test.true (omega arith) (sym c.is_marked.ensures ∙ w.if-is_marked.false))
+    ]
 
 pub returns : goal.returns
 returns c =

@@ -1,11 +1,7 @@
 -- `table::remove` meets its contract. The loop's invariant, `Removing`: the rows passed that stay are closed up to before `to`, and from `from`
 -- on the table is as it was. The measure is what is left of `used`. Assumes nothing.
 use Prim.Native.Nat.{◌-◌}
-use mathlib.Core.Path.{sym, ◌∙◌}
-use mathlib.Core.Logic.{⊎_elim}
-use native.Mathlib.Omega.{arith}
-use borrow.Author.Rules.{rules}
-use Rattle.table.proofs.RowLaws.{rows_short, rows_end, Removing, removing_none, removing_marked, removing_moved, removing_end}
+use Rattle.table.proofs.RowLaws.{Removing}
 use Rattle.table.proofs.remove.Given as goal
 
 abbrev pub invariant-loop-i : goal.invariant-loop-i

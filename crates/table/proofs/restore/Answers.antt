@@ -3,7 +3,6 @@ use Prim.Native.Nat.{◌*◌, ◌≤◌}
 use mathlib.Core.Path.{sym}
 use native.Mathlib.Omega.{arith}
 use native.Mathlib.Nat.{mul-le-mul_right}
-use borrow.Author.Rules.{rules}
 use lib.ListN.{length}
 use Rattle.table.specs.Bytes.{restored}
 use Rattle.table.proofs.ByteLaws.{rows_fit, restored_none, restored_not, restored_before}
@@ -24,7 +23,7 @@ returns-then-used-earlier c =
 pub overflow_mul-earlier : goal.overflow_mul-earlier
 overflow_mul-earlier c =
     let fit : c.args.used * c.args.size ≤ length c.args.table.now = rows_fit c.args.size c.args.used (length c.args.table.now) (omega arith) c.if-table-size.false in
-        let h = fit in
+    let h = fit in
     omega (arith, mul-le-mul_right c.args.size c.if-used-earlier.false)
 
 pub overflow_mul-used : goal.overflow_mul-used

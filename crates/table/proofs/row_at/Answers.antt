@@ -29,7 +29,7 @@ slice_bounds-result-end-then-i-table c =
 pub returns-then-i-table : goal.returns-then-i-table
 returns-then-i-table c =
     let fits : c.args.i * c.args.size + c.args.size ≤ length c.args.table.now = row_fits c.args.size c.args.i (length c.args.table.now) (omega arith) c.if-i-table.true in
-        let all : c.args.i * c.args.size + c.args.size - c.args.i * c.args.size ≡ c.args.size = omega arith in
+    let all : c.args.i * c.args.size + c.args.size - c.args.i * c.args.size ≡ c.args.size = omega arith in
     rw all (sym (row_at_whole c.args.size c.args.i c.args.table.now (fits)))
 
 pub returns : goal.returns

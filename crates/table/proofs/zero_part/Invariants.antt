@@ -1,13 +1,10 @@
 -- The loop's invariant: `i` is at most `n`, and the part is zero if `zero` holds and those from `i` on are zero. The measure is
 -- what is left of the `n`. Assumes nothing.
-use Prim.Native.Nat.{◌-◌, ◌≤◌, ◌<◌}
-use mathlib.Core.Path.{◌≡◌, refl, sym, ◌∙◌}
-use mathlib.Core.Bool.{◌&&◌, and-true}
-use native.Mathlib.Omega.{arith}
-use lib.ListN.{length, take, drop, length-drop}
-use lib.Seq.{length-take-le, get_or-take, get_or-drop}
+use Prim.Native.Nat.{◌-◌, ◌≤◌}
+use mathlib.Core.Path.{◌≡◌}
+use mathlib.Core.Bool.{◌&&◌}
+use lib.ListN.{take, drop}
 use Rattle.table.specs.Bytes.{zeros}
-use Rattle.table.proofs.ByteLaws.{zeros_step, zeros_end}
 use Rattle.table.proofs.zero_part.Given as goal
 
 abbrev pub invariant-loop-i : goal.invariant-loop-i

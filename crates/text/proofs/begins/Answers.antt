@@ -1,11 +1,8 @@
 -- `text::begins` meets its contract. The loop's invariant: `i` is at most the pattern's length, and what is left of the text begins with what
 -- is left of the pattern if and only if the text begins with the pattern. The measure is what is left of the pattern's length.
 -- Assumes nothing.
-use Prim.Native.Nat.{◌-◌, ◌≤◌}
-use mathlib.Core.Path.{◌≡◌, refl, sym, ◌∙◌}
+use mathlib.Core.Path.{refl, sym, ◌∙◌}
 use native.Mathlib.Omega.{arith}
-use lib.ListN.{length, drop}
-use Rattle.text.specs.Text.{begins}
 use Rattle.text.proofs.Laws.{begins_short, begins_agree, begins_differ, begins_end}
 use Rattle.text.proofs.begins.Goals as goal
 

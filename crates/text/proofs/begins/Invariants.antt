@@ -2,11 +2,9 @@
 -- is left of the pattern if and only if the text begins with the pattern. The measure is what is left of the pattern's length.
 -- Assumes nothing.
 use Prim.Native.Nat.{◌-◌, ◌≤◌}
-use mathlib.Core.Path.{◌≡◌, refl, sym, ◌∙◌}
-use native.Mathlib.Omega.{arith}
+use mathlib.Core.Path.{◌≡◌}
 use lib.ListN.{length, drop}
 use Rattle.text.specs.Text.{begins}
-use Rattle.text.proofs.Laws.{begins_short, begins_agree, begins_differ, begins_end}
 use Rattle.text.proofs.begins.Given as goal
 
 abbrev pub invariant-loop-i : goal.invariant-loop-i

@@ -1,13 +1,9 @@
 -- `text::contains` meets its contract. The loop's invariant: `i` is at most the text's length, and the pattern stands in what is left of the
 -- text if and only if it stands in the text. The measure is what is left of the text's length. Assumes nothing.
 use Prim.Native.Nat.{◌-◌, ◌≤◌}
-use mathlib.Core.Path.{◌≡◌, refl, sym, ◌∙◌}
-use native.Mathlib.Omega.{arith}
-use borrow.Author.Rules.{rules}
-use borrow.Author.Rules.{part_to_end}
+use mathlib.Core.Path.{◌≡◌}
 use lib.ListN.{length, drop}
 use Rattle.text.specs.Text.{contains}
-use Rattle.text.proofs.Laws.{contains-begins, contains_past, contains_end}
 use Rattle.text.proofs.contains.Given as goal
 
 abbrev pub invariant-loop-i : goal.invariant-loop-i

@@ -1,7 +1,6 @@
 -- A number past the end of the text means all of it. Assumes nothing.
 use mathlib.Core.Path.{sym}
 use native.Mathlib.Omega.{arith}
-use borrow.Author.Rules.{rules}
 use lib.Seq.{length-take-le, take_all}
 use Rattle.text.proofs.front.Goals as goal
 

@@ -1,7 +1,6 @@
 -- `text::occurs` meets its contract: an empty pattern never occurs, and any other occurs where the text begins with it.
 -- Assumes nothing.
 use mathlib.Core.Path.{sym, ◌∙◌}
-use borrow.Author.Rules.{rules}
 use Rattle.text.proofs.Laws.{occurs_empty, occurs_begins}
 use Rattle.text.proofs.occurs.Goals as goal
 

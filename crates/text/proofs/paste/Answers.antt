@@ -1,12 +1,11 @@
 -- The two tests say that there is room, without a sum that could wrap. Assumes nothing.
 use native.Mathlib.Omega.{arith}
-use mathlib.Core.Path.{◌≡◌, sym, ◌∙◌}
+use mathlib.Core.Path.{sym, ◌∙◌}
 use Prim.Native.Nat.{◌+◌}
 use lib.ListN.{length}
 use borrow.Author.Tests.{le-leb, lt-leb}
 use Rattle.text.specs.Text.{fits_at}
 use Rattle.text.proofs.Laws.{pasted_fits, pasted_not}
-use borrow.Author.Rules.{rules}
 use Rattle.text.proofs.paste.Goals as goal
 
 pub returns-then-buffer-at : goal.returns-then-buffer-at

@@ -1,6 +1,6 @@
 -- `text::put` meets its contract. The loop's invariant: `i` is at most the source's length, and the buffer is what it was with the first `i`
 -- bytes of the source from `at` on (`paste` of lib.Seq). The measure is what is left of the source's length. Assumes nothing.
-use Prim.Native.Nat.{ℕ, ◌+◌, ◌-◌, ◌≤◌}
+use Prim.Native.Nat.{ℕ, ◌+◌}
 use mathlib.Core.Path.{◌≡◌, refl, ◌∙◌}
 use mathlib.Core.List.{List, ◌++◌, append_assoc}
 use native.Mathlib.Omega.{arith}

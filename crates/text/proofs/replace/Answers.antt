@@ -2,7 +2,6 @@
 -- `write_replaced` writes. Assumes nothing.
 use mathlib.Core.Path.{sym}
 use native.Mathlib.Omega.{arith}
-use borrow.Author.Rules.{rules}
 use Rattle.text.proofs.Laws.{length_told, too_long_told, written_too_long}
 use Rattle.text.proofs.replace.Goals as goal
 

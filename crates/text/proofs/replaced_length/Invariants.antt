@@ -1,13 +1,9 @@
 -- `text::replaced_length` meets its contract. The loop's invariant: `n` is at most the room, `i` at most the text's length, and `n` with the
 -- length of what is left to replace is the length of the whole. The measure is what is left of the text's length. Assumes nothing.
 use Prim.Native.Nat.{◌+◌, ◌-◌, ◌≤◌}
-use mathlib.Core.Path.{◌≡◌, sym, ap, ◌∙◌}
-use native.Mathlib.Omega.{arith}
-use borrow.Author.Rules.{rules}
-use borrow.Author.Rules.{part_to_end}
+use mathlib.Core.Path.{◌≡◌}
 use lib.ListN.{length, drop}
 use Rattle.text.specs.Text.{replace}
-use Rattle.text.proofs.Laws.{Taken, taken, Passed, passed, replace_end, fitted-length, fitted-too_long}
 use Rattle.text.proofs.replaced_length.Given as goal
 
 abbrev pub invariant-loop-i : goal.invariant-loop-i

@@ -1,13 +1,9 @@
 -- `text::write_replaced` meets its contract. The loop's invariant: `i` is at most the text's length, and the buffer has the first `n` bytes of
 -- the result, whose others are what is left to replace. The measure is what is left of the text's length. Assumes nothing.
 use Prim.Native.Nat.{◌-◌, ◌≤◌}
-use mathlib.Core.Path.{sym, ◌∙◌}
-use native.Mathlib.Omega.{arith}
-use borrow.Author.Rules.{rules}
-use borrow.Author.Rules.{part_to_end}
 use lib.ListN.{length, drop}
 use Rattle.text.specs.Text.{replace}
-use Rattle.text.proofs.Laws.{Taken, taken, Passed, passed, replace_end, Wrote, wrote_none, wrote_lengths, wrote_part, wrote_byte, wrote_all}
+use Rattle.text.proofs.Laws.{Wrote}
 use Rattle.text.proofs.write_replaced.Given as goal
 
 abbrev pub invariant-loop-i : goal.invariant-loop-i

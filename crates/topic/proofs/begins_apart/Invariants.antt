@@ -1,13 +1,9 @@
 -- Byte by byte. The loop's invariant: what is left of the two is apart if and only if they are; the measure is what is left of the filter.
 -- Assumes nothing.
 use Prim.Native.Nat.{◌-◌, ◌≤◌}
-use mathlib.Core.Path.{◌≡◌, refl, sym, ◌∙◌}
-use native.Mathlib.Omega.{arith}
+use mathlib.Core.Path.{◌≡◌}
 use lib.ListN.{length, drop}
-use borrow.Author.Tests.{eq-eqb, ne_eqb}
 use Rattle.topic.specs.Walk.{begins_apart}
-use Rattle.topic.proofs.Apart.{apart_end, apart_no_text, apart_at}
-use borrow.Author.Rules.{rules}
 use Rattle.topic.proofs.begins_apart.Given as goal
 
 abbrev pub invariant-loop-i : goal.invariant-loop-i

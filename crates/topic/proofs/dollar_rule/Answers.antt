@@ -1,11 +1,9 @@
 -- Each return has the tests of `dollar_rule` that led there. Assumes nothing.
-use mathlib.Core.Path.{◌≡◌, refl, sym, ap, ap₂, ◌∙◌}
-use mathlib.Core.Bool.{true, false, ◌&&◌, ◌||◌, and-true, and-false}
-use borrow.Author.Tests.{not-true, not-false}
+use mathlib.Core.Path.{refl, sym, ap, ◌∙◌}
+use mathlib.Core.Bool.{◌||◌, and-true, and-false}
 use Rattle.topic.proofs.Places.{dollar_by}
 use Rattle.topic.specs.Topic.{is_plus, is_hash}
 use Rattle.topic.specs.Walk.{level_at}
-use borrow.Author.Rules.{rules}
 use Rattle.topic.proofs.dollar_rule.Goals as goal
 
 pub returns-then-not-is_metadata : goal.returns-then-not-is_metadata

@@ -3,7 +3,6 @@ use native.Mathlib.Omega.{arith}
 use mathlib.Core.Path.{sym, ◌∙◌, ap}
 use Rattle.topic.specs.Topic.{is_hash}
 use Rattle.topic.proofs.Places.{ends_past, ends_here}
-use borrow.Author.Rules.{rules}
 use Rattle.topic.proofs.ends_at.Goals as goal
 
 pub returns-then-filter-at : goal.returns-then-filter-at

@@ -1,7 +1,6 @@
 -- An empty level has no first byte. Assumes nothing.
 use Rattle.topic.proofs.Places.{metadata_empty, metadata_first}
-use mathlib.Core.Path.{refl, sym, ap}
-use borrow.Author.Rules.{rules}
+use mathlib.Core.Path.{sym}
 use Rattle.topic.proofs.is_metadata.Goals as goal
 
 pub returns-then-level-eq0 : goal.returns-then-level-eq0

@@ -1,7 +1,6 @@
 -- A level of another length is another level; one byte is compared. Assumes nothing.
 use Rattle.topic.proofs.Places.{only_length, only_one}
-use mathlib.Core.Path.{refl, sym, ap}
-use borrow.Author.Rules.{rules}
+use mathlib.Core.Path.{sym}
 use Rattle.topic.proofs.is_only.Goals as goal
 
 pub returns-then-level-ne1 : goal.returns-then-level-ne1

@@ -1,8 +1,7 @@
 -- The part from `at` to where the level ends is the level; past the text both are empty. Assumes nothing.
 use native.Mathlib.Omega.{arith}
-use mathlib.Core.Path.{sym, ◌∙◌, ap}
+use mathlib.Core.Path.{sym}
 use Rattle.topic.proofs.Places.{level_past, level_part, level_within, end_after}
-use borrow.Author.Rules.{rules}
 use Rattle.topic.proofs.level_at.Goals as goal
 
 pub returns-then-text-at : goal.returns-then-text-at

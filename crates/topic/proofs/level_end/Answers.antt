@@ -1,12 +1,8 @@
 -- The loop's invariant: the level that begins at `i` ends where the level that begins at `at` does. The measure is what is left of
 -- the text. Assumes nothing.
-use Prim.Native.Nat.{◌-◌}
 use native.Mathlib.Omega.{arith}
-use mathlib.Core.Path.{◌≡◌, refl, sym, ◌∙◌}
-use lib.ListN.{length}
-use Rattle.topic.specs.Walk.{level_end}
+use mathlib.Core.Path.{refl, sym, ◌∙◌}
 use Rattle.topic.proofs.Places.{end_past, end_slash, end_onward}
-use borrow.Author.Rules.{rules}
 use Rattle.topic.proofs.level_end.Goals as goal
 
 pub loop-i-init : goal.loop-i-init

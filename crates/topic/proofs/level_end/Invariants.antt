@@ -1,12 +1,9 @@
 -- The loop's invariant: the level that begins at `i` ends where the level that begins at `at` does. The measure is what is left of
 -- the text. Assumes nothing.
 use Prim.Native.Nat.{◌-◌}
-use native.Mathlib.Omega.{arith}
-use mathlib.Core.Path.{◌≡◌, refl, sym, ◌∙◌}
+use mathlib.Core.Path.{◌≡◌}
 use lib.ListN.{length}
 use Rattle.topic.specs.Walk.{level_end}
-use Rattle.topic.proofs.Places.{end_past, end_slash, end_onward}
-use borrow.Author.Rules.{rules}
 use Rattle.topic.proofs.level_end.Given as goal
 
 abbrev pub invariant-loop-i : goal.invariant-loop-i

@@ -2,7 +2,6 @@
 use mathlib.Core.Path.{sym, ◌∙◌}
 use Rattle.topic.proofs.Places.{match_by}
 use Rattle.topic.specs.Topic.{levels, plain_match}
-use borrow.Author.Rules.{rules}
 use Rattle.topic.proofs.plain_match.Goals as goal
 
 pub returns-then-dollar_rule : goal.returns-then-dollar_rule

@@ -1,10 +1,9 @@
 -- The loop's invariant: what the walk comes to is what the levels come to. The measure is what is left of the filter while the walk
 -- is not done. Assumes nothing.
-use mathlib.Core.Path.{◌≡◌, sym, ap₂, ◌∙◌}
+use mathlib.Core.Path.{sym, ap₂, ◌∙◌}
 use borrow.Author.Tests.{not-true, not-false}
-use Rattle.topic.specs.Topic.{levels, takes}
-use Rattle.topic.proofs.Places.{comes_to, comes_done, left, levels_all, step_nearer}
-use borrow.Author.Rules.{rules}
+use Rattle.topic.specs.Topic.{takes}
+use Rattle.topic.proofs.Places.{comes_to, comes_done, levels_all, step_nearer}
 use Rattle.topic.proofs.takes.Goals as goal
 
 pub loop-walk-init : goal.loop-walk-init

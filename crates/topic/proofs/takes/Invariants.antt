@@ -1,10 +1,8 @@
 -- The loop's invariant: what the walk comes to is what the levels come to. The measure is what is left of the filter while the walk
 -- is not done. Assumes nothing.
-use mathlib.Core.Path.{◌≡◌, sym, ap₂, ◌∙◌}
-use borrow.Author.Tests.{not-true, not-false}
+use mathlib.Core.Path.{◌≡◌}
 use Rattle.topic.specs.Topic.{levels, takes}
-use Rattle.topic.proofs.Places.{comes_to, comes_done, left, levels_all, step_nearer}
-use borrow.Author.Rules.{rules}
+use Rattle.topic.proofs.Places.{comes_to, left}
 use Rattle.topic.proofs.takes.Given as goal
 
 abbrev pub invariant-loop-walk : goal.invariant-loop-walk

@@ -3,7 +3,6 @@ use mathlib.Core.Path.{sym, ◌∙◌}
 use mathlib.Core.Bool.{◌||◌}
 use Rattle.text.specs.Text.{same}
 use Rattle.topic.specs.Topic.{takes_level}
-use borrow.Author.Rules.{rules}
 use Rattle.topic.proofs.takes_level.Goals as goal
 
 pub returns-then-is_only : goal.returns-then-is_only

@@ -3,7 +3,6 @@ use mathlib.Core.Path.{sym, ap, ◌∙◌}
 use mathlib.Core.Bool.{Bool}
 use Rattle.topic.specs.Topic.{levels, levels_match, levels_if, checked_levels, tree_match}
 use Rattle.topic.proofs.Apart.{apart_no_match}
-use borrow.Author.Rules.{rules}
 use Rattle.topic.proofs.tree_match.Goals as goal
 
 pub returns-then-begins_apart : goal.returns-then-begins_apart

@@ -3,7 +3,6 @@ use mathlib.Core.Path.{sym, ap, ◌∙◌}
 use mathlib.Core.Bool.{Bool}
 use Rattle.topic.proofs.Places.{levels_all, match_nothing}
 use Rattle.topic.specs.Topic.{levels, ends, levels_match, levels_if, plain_match}
-use borrow.Author.Rules.{rules}
 use Rattle.topic.proofs.tree_match_known.Goals as goal
 
 pub returns-then-valid : goal.returns-then-valid

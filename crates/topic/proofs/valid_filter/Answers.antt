@@ -1,14 +1,11 @@
 -- The loop's invariant: the rest of the text, with the flag, is valid exactly where the text is. The measure is what is left of the text.
 -- Assumes nothing.
-use Prim.Native.Nat.{◌+◌, ◌-◌, ◌≤◌}
+use Prim.Native.Nat.{◌+◌}
 use native.Mathlib.Omega.{arith}
-use mathlib.Core.Path.{◌≡◌, refl, sym, ap, ◌∙◌}
-use borrow.Author.Tests.{not-true, not-false, ne_eqb, eq-eqb}
-use mathlib.Core.Bool.{true, false, ◌&&◌}
-use lib.ListN.{length, drop, drop_of_length-le}
-use Rattle.topic.specs.Topic.{valid_filter}
+use mathlib.Core.Path.{refl, sym, ◌∙◌}
+use borrow.Author.Tests.{ne_eqb, eq-eqb}
+use lib.ListN.{drop_of_length-le}
 use Rattle.topic.proofs.Scan.{scan, scan_valid, scan-slash, scan-hash, scan-plus, scan_other, separated_at, separated_past}
-use borrow.Author.Rules.{rules}
 use Rattle.topic.proofs.valid_filter.Goals as goal
 
 pub loop-i-init : goal.loop-i-init
@@ -45,7 +42,7 @@ loop-i-preserved-else-i-text c =
 
 pub loop-i-preserved : goal.loop-i-preserved
 loop-i-preserved c =
-    (omega arith, sym (scan_other c.args.text.now c.loop-i.i c.loop-i-test.true c.loop-i.starts c.in_default.rest.0.0.1 c.in_default.rest.0.1 c.in_default.rest.1) ∙ c.loop-i.invariant.1)
+    (omega arith, sym (scan_other c.args.text.now c.loop-i.i c.loop-i-test.true c.loop-i.starts (λ e. omega arith) (λ e. omega arith) (λ e. omega arith)) ∙ c.loop-i.invariant.1)
 
 pub returns : goal.returns
 unfolding scan

@@ -54,4 +54,4 @@ pub fill_tables-requires : goal.fill_tables-requires
 fill_tables-requires c =
     let fine : first (argument_causes (spec.connected c.args.session c.args.id.now (given c.args.name c.args.names.now))) ≡ none = arguments_fine _ _ _ c.if-id-gt-ID.false (sym c.name_over.ensures ∙ c.if-name_over.false) (omega (arith, c.if-session-ge-SESSIONS.false)) in
     let seen : Seen (view c.args.store.now) c.in-LaidOut.shape = seen_as (view c.args.store.now) c.in-LaidOut.shape (sym c.shape.ensures ∙ c.in-LaidOut.is) in
-        record { store_value = sym c.shape.ensures ∙ c.in-LaidOut.is; names_value = fine; names_value_2 = not_over _ _ (seen) _ _ (sym c.over_filled.ensures ∙ c.if-over_filled.false) }
+    record { store_value = sym c.shape.ensures ∙ c.in-LaidOut.is; names_value = fine; names_value_2 = not_over _ _ (seen) _ _ (sym c.over_filled.ensures ∙ c.if-over_filled.false) }

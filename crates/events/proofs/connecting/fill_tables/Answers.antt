@@ -67,7 +67,7 @@ push_all-requires-2 c =
       notes_place = c.notes_at-notes_at.ensures;
       ends = c.length-end.ensures;
     } in
-    let filters_in : FiltersAdded (ready) c.in-Used.filters c.push_all.new.0 = filters_added (ready) (c.push_all.ensures.value, c.push_all.ensures.store_after) c.in-Used.is in
+    let filters_in : FiltersAdded (ready) c.in-Used.filters c.push_all.new.store = filters_added (ready) (c.push_all.ensures.value, c.push_all.ensures.store_after) c.in-Used.is in
     let g = ready in let f = filters_in in
     let whole = asks_eqs g f.left (sized₁ g f) in record { id_len_bound = whole.0; le_text_end = whole.1.0; store_len_bound = whole.1.1.0; names_value = whole.1.1.1 }
 
@@ -87,7 +87,7 @@ returns-in_default-push_all c =
       notes_place = c.notes_at-notes_at.ensures;
       ends = c.length-end.ensures;
     } in
-    let filters_in : FiltersAdded (ready) c.in-Used.filters c.push_all.new.0 = filters_added (ready) (c.push_all.ensures.value, c.push_all.ensures.store_after) c.in-Used.is in
+    let filters_in : FiltersAdded (ready) c.in-Used.filters c.push_all.new.store = filters_added (ready) (c.push_all.ensures.value, c.push_all.ensures.store_after) c.in-Used.is in
     let whole = eqs_full (ready) (filters_in) (c.push_all-2.ensures.value, c.push_all-2.ensures.store_after) c.in_default-push_all.is c.put_back-in_default-push_all.ensures in record { result_value = whole.0; store_after = whole.1 }
 
 pub push_all-requires-3 : goal.push_all-requires-3
@@ -105,8 +105,8 @@ push_all-requires-3 c =
       notes_place = c.notes_at-notes_at.ensures;
       ends = c.length-end.ensures;
     } in
-    let filters_in : FiltersAdded (ready) c.in-Used.filters c.push_all.new.0 = filters_added (ready) (c.push_all.ensures.value, c.push_all.ensures.store_after) c.in-Used.is in
-    let eqs_in : EqsAdded (ready) c.in-Used-push_all.eqs c.push_all-2.new.0 = eqs_added (ready) (filters_in) (c.push_all-2.ensures.value, c.push_all-2.ensures.store_after) c.in-Used-push_all.is in
+    let filters_in : FiltersAdded (ready) c.in-Used.filters c.push_all.new.store = filters_added (ready) (c.push_all.ensures.value, c.push_all.ensures.store_after) c.in-Used.is in
+    let eqs_in : EqsAdded (ready) c.in-Used-push_all.eqs c.push_all-2.new.store = eqs_added (ready) (filters_in) (c.push_all-2.ensures.value, c.push_all-2.ensures.store_after) c.in-Used-push_all.is in
     let g = ready in let f = filters_in in let e = eqs_in in
     let whole = asks_notes g e.left (sized₂ g f e) in record { id_len_bound = whole.0; le_text_end = whole.1.0; store_len_bound = whole.1.1.0; names_value = whole.1.1.1 }
 
@@ -126,8 +126,8 @@ returns-in_default-push_all-2 c =
       notes_place = c.notes_at-notes_at.ensures;
       ends = c.length-end.ensures;
     } in
-    let filters_in : FiltersAdded (ready) c.in-Used.filters c.push_all.new.0 = filters_added (ready) (c.push_all.ensures.value, c.push_all.ensures.store_after) c.in-Used.is in
-    let eqs_in : EqsAdded (ready) c.in-Used-push_all.eqs c.push_all-2.new.0 = eqs_added (ready) (filters_in) (c.push_all-2.ensures.value, c.push_all-2.ensures.store_after) c.in-Used-push_all.is in
+    let filters_in : FiltersAdded (ready) c.in-Used.filters c.push_all.new.store = filters_added (ready) (c.push_all.ensures.value, c.push_all.ensures.store_after) c.in-Used.is in
+    let eqs_in : EqsAdded (ready) c.in-Used-push_all.eqs c.push_all-2.new.store = eqs_added (ready) (filters_in) (c.push_all-2.ensures.value, c.push_all-2.ensures.store_after) c.in-Used-push_all.is in
     let whole = notes_full (ready) (filters_in) (eqs_in) (c.push_all-3.ensures.value, c.push_all-3.ensures.store_after) c.in_default-push_all-2.is c.put_back-in_default-push_all-2.ensures in record { result_value = whole.0; store_after = whole.1 }
 
 pub overflow_cast-filters : goal.overflow_cast-filters
@@ -145,7 +145,7 @@ overflow_cast-filters c =
       notes_place = c.notes_at-notes_at.ensures;
       ends = c.length-end.ensures;
     } in
-    let filters_in : FiltersAdded (ready) c.in-Used.filters c.push_all.new.0 = filters_added (ready) (c.push_all.ensures.value, c.push_all.ensures.store_after) c.in-Used.is in
+    let filters_in : FiltersAdded (ready) c.in-Used.filters c.push_all.new.store = filters_added (ready) (c.push_all.ensures.value, c.push_all.ensures.store_after) c.in-Used.is in
     let f = filters_in in omega (arith, f.fits, f.count, rows_fit (ready))
 
 pub overflow_cast-eqs : goal.overflow_cast-eqs
@@ -163,8 +163,8 @@ overflow_cast-eqs c =
       notes_place = c.notes_at-notes_at.ensures;
       ends = c.length-end.ensures;
     } in
-    let filters_in : FiltersAdded (ready) c.in-Used.filters c.push_all.new.0 = filters_added (ready) (c.push_all.ensures.value, c.push_all.ensures.store_after) c.in-Used.is in
-    let eqs_in : EqsAdded (ready) c.in-Used-push_all.eqs c.push_all-2.new.0 = eqs_added (ready) (filters_in) (c.push_all-2.ensures.value, c.push_all-2.ensures.store_after) c.in-Used-push_all.is in
+    let filters_in : FiltersAdded (ready) c.in-Used.filters c.push_all.new.store = filters_added (ready) (c.push_all.ensures.value, c.push_all.ensures.store_after) c.in-Used.is in
+    let eqs_in : EqsAdded (ready) c.in-Used-push_all.eqs c.push_all-2.new.store = eqs_added (ready) (filters_in) (c.push_all-2.ensures.value, c.push_all-2.ensures.store_after) c.in-Used-push_all.is in
     let e = eqs_in in omega (arith, e.fits, e.count, rows_fit (ready))
 
 pub overflow_cast-notes : goal.overflow_cast-notes
@@ -182,14 +182,14 @@ overflow_cast-notes c =
       notes_place = c.notes_at-notes_at.ensures;
       ends = c.length-end.ensures;
     } in
-    let filters_in : FiltersAdded (ready) c.in-Used.filters c.push_all.new.0 = filters_added (ready) (c.push_all.ensures.value, c.push_all.ensures.store_after) c.in-Used.is in
-    let eqs_in : EqsAdded (ready) c.in-Used-push_all.eqs c.push_all-2.new.0 = eqs_added (ready) (filters_in) (c.push_all-2.ensures.value, c.push_all-2.ensures.store_after) c.in-Used-push_all.is in
-    let notes_in : NotesAdded (ready) c.in-Used-push_all-2.notes c.push_all-3.new.0 = notes_added (ready) (filters_in) (eqs_in) (c.push_all-3.ensures.value, c.push_all-3.ensures.store_after) c.in-Used-push_all-2.is in
+    let filters_in : FiltersAdded (ready) c.in-Used.filters c.push_all.new.store = filters_added (ready) (c.push_all.ensures.value, c.push_all.ensures.store_after) c.in-Used.is in
+    let eqs_in : EqsAdded (ready) c.in-Used-push_all.eqs c.push_all-2.new.store = eqs_added (ready) (filters_in) (c.push_all-2.ensures.value, c.push_all-2.ensures.store_after) c.in-Used-push_all.is in
+    let notes_in : NotesAdded (ready) c.in-Used-push_all-2.notes c.push_all-3.new.store = notes_added (ready) (filters_in) (eqs_in) (c.push_all-3.ensures.value, c.push_all-3.ensures.store_after) c.in-Used-push_all-2.is in
     let n = notes_in in omega (arith, n.fits, n.count, rows_fit (ready))
 
 pub shape_of-store : goal.shape_of-store
 shape_of-store c =
-    c.put_number-3.auto.0 ∙ (c.put_number-2.auto.0 ∙ (c.put_number.auto.0 ∙ (c.push_all-3.auto.0 ∙ (c.push_all-2.auto.0 ∙ c.push_all.auto.0))))
+    c.put_number-3.auto.bytes ∙ (c.put_number-2.auto.bytes ∙ (c.put_number.auto.bytes ∙ (c.push_all-3.auto.store ∙ (c.push_all-2.auto.store ∙ c.push_all.auto.store))))
 
 pub returns : goal.returns
 unfolding says
@@ -207,7 +207,7 @@ returns c =
       notes_place = c.notes_at-notes_at.ensures;
       ends = c.length-end.ensures;
     } in
-    let filters_in : FiltersAdded (ready) c.in-Used.filters c.push_all.new.0 = filters_added (ready) (c.push_all.ensures.value, c.push_all.ensures.store_after) c.in-Used.is in
-    let eqs_in : EqsAdded (ready) c.in-Used-push_all.eqs c.push_all-2.new.0 = eqs_added (ready) (filters_in) (c.push_all-2.ensures.value, c.push_all-2.ensures.store_after) c.in-Used-push_all.is in
-    let notes_in : NotesAdded (ready) c.in-Used-push_all-2.notes c.push_all-3.new.0 = notes_added (ready) (filters_in) (eqs_in) (c.push_all-3.ensures.value, c.push_all-3.ensures.store_after) c.in-Used-push_all-2.is in
+    let filters_in : FiltersAdded (ready) c.in-Used.filters c.push_all.new.store = filters_added (ready) (c.push_all.ensures.value, c.push_all.ensures.store_after) c.in-Used.is in
+    let eqs_in : EqsAdded (ready) c.in-Used-push_all.eqs c.push_all-2.new.store = eqs_added (ready) (filters_in) (c.push_all-2.ensures.value, c.push_all-2.ensures.store_after) c.in-Used-push_all.is in
+    let notes_in : NotesAdded (ready) c.in-Used-push_all-2.notes c.push_all-3.new.store = notes_added (ready) (filters_in) (eqs_in) (c.push_all-3.ensures.value, c.push_all-3.ensures.store_after) c.in-Used-push_all-2.is in
     let whole = all_added (ready) (filters_in) (eqs_in) (notes_in) c.put_number.ensures c.put_number-2.ensures c.put_number-3.ensures in record { result_value = whole.0; store_after = whole.1 }

@@ -31,7 +31,7 @@ returns-in-TooLong c =
 pub loop-turns-preserved : goal.loop-turns-preserved
 loop-turns-preserved c =
     over_onward _ _ _ _ c.loop-turns.turns c.requires refl c.loop-turns-test.true c.in-At.is
-    c.fill_topic.ensures.value c.loop-turns.invariant (over_not _ c.in_default.keys2) c.next_topic-next.ensures
+    c.fill_topic.ensures.value c.loop-turns.invariant (over_not _ c.in_default.not-TooLong) c.next_topic-next.ensures
 
 pub loop-at-smaller : goal.loop-at-smaller
 loop-at-smaller c =

@@ -2,18 +2,9 @@
 -- all rows come to from the start (`AtLine`); `rule` counts the lines passed, and no text left is over 256. The inner loop's: so do the rows of
 -- the line's topics from `next` on, of `turns` at the most, and of the lines behind it (`AtTopic`). The measures are what is left of the rule
 -- text, and `turns`. Assumes nothing.
-use Prim.Native.Nat.{ℕ, suc, ◌≤◌, ◌-◌}
-use mathlib.Core.Path.{ap, ◌∙◌}
-use native.Mathlib.Omega.{arith}
-use borrow.Author.Rules.{rules}
-use borrow.Rule.Slice.PartMut.{same_len_mid}
-use lib.ListN.{length, replicate, length-replicate}
-use Rattle.json_text.specs.Lines.{next_line}
-use Rattle.json_text.proofs.LineLaws.{next_after}
+use Prim.Native.Nat.{◌-◌}
 use Rattle.rule.specs.Places.{given}
-use Rattle.events.specs.Pushes.{topic_bytes}
-use Rattle.events.proofs.PushLaws.{topic_long}
-use Rattle.events.proofs.ConnectLaws.{rules, Room, rules-length, length_kept, room_kept, rules_kept, rules_lent, AtLine, AtTopic, AtRow, line_start, line_done, rule_fits, topic_start, line_next, line_full, topic_none, topic_row, row_present, row_added, row_room}
+use Rattle.events.proofs.ConnectLaws.{AtLine, AtTopic}
 use Rattle.events.proofs.connecting.push_all.Given as goal
 
 abbrev pub invariant-loop-turns : goal.invariant-loop-turns

@@ -33,4 +33,4 @@ returns-in-Notes-table c =
 
 pub returns-in_default : goal.returns-in_default
 returns-in_default c =
-    let whole = pushes_none c.args.used c.args.part.now (no_topic c.args.table c.args.rule c.args.session c.args.id.now c.args.text.now c.args.topic c.in_default.keys3) in record { value = whole.0; part_after = whole.1 }
+    let whole = pushes_none c.args.used c.args.part.now (no_topic c.args.table c.args.rule c.args.session c.args.id.now c.args.text.now c.args.topic c.in_default.not-Filter c.in_default.not-Eq) in record { value = whole.0; part_after = whole.1 }

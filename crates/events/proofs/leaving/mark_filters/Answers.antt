@@ -2,7 +2,6 @@
 -- from `at` on are marked too the marks are those of all rows. The measure is what is left of the part. Assumes nothing.
 use Prim.Native.Nat.{◌-◌}
 use mathlib.Core.Path.{sym, ◌∙◌}
-use mathlib.Core.Logic.{⊎_elim}
 use native.Mathlib.Omega.{arith}
 use borrow.Author.Rules.{rules}
 use lib.ListN.{length}
@@ -11,6 +10,7 @@ use Rattle.store.proofs.PartLaws.{rows_from}
 use Rattle.events.specs.Event.{cleared}
 use Rattle.events.specs.Marks.{filter_row, filter_rows_in, note_rows_in}
 use Rattle.events.proofs.LeaveLaws.{Marking, marking_none, marking_more, marking_end}
+use Rattle.events.proofs.leaving.mark_filters.Goals.{then-row_clears, else-row_clears}
 use Rattle.events.proofs.leaving.mark_filters.Goals as goal
 
 pub loop-at-init : goal.loop-at-init
@@ -20,10 +20,10 @@ loop-at-init c =
 pub loop-at-preserved : goal.loop-at-preserved
 unfolding filter_codec filter_row
 loop-at-preserved c =
-    ⊎_elim
-    (λ w. marking_more c.loop-at.invariant (omega arith) (omega arith) (omega (arith, c.loop-at.invariant.lengths)) (sym c.row_clears.ensures ∙ w.0.taken) w.1)
-    (λ w. marking_more c.loop-at.invariant (omega arith) (omega arith) (omega (arith, c.loop-at.invariant.lengths)) (sym c.row_clears.ensures ∙ w.0.left) w.1)
-    c.if-row_clears.branch
+    elim c.if-row_clears.branch [
+      | then-row_clears w ↦ marking_more c.loop-at.invariant (omega arith) (omega arith) (omega (arith, c.loop-at.invariant.lengths)) (sym c.row_clears.ensures ∙ w.if-row_clears.true) w.marks-is
+      | else-row_clears w ↦ marking_more c.loop-at.invariant (omega arith) (omega arith) (omega (arith, c.loop-at.invariant.lengths)) (sym c.row_clears.ensures ∙ w.if-row_clears.false) w.marks-is
+    ]
 
 pub returns : goal.returns
 unfolding filter_codec

@@ -2,7 +2,6 @@
 -- from `at` on are marked too the marks are those of all rows. The measure is what is left of the part. Assumes nothing.
 use Prim.Native.Nat.{◌-◌}
 use mathlib.Core.Path.{sym, ◌∙◌}
-use mathlib.Core.Logic.{⊎_elim}
 use native.Mathlib.Omega.{arith}
 use borrow.Author.Rules.{rules}
 use borrow.Author.Tests.{eq-eqb, ne_eqb}
@@ -12,6 +11,7 @@ use Rattle.store.proofs.PartLaws.{rows_from}
 use Rattle.events.specs.Event.{of_session}
 use Rattle.events.specs.Marks.{note_rows_in}
 use Rattle.events.proofs.LeaveLaws.{Marking, marking_none, marking_more, marking_end}
+use Rattle.events.proofs.leaving.mark_notes.Goals.{then-number_at-session, else-number_at-session}
 use Rattle.events.proofs.leaving.mark_notes.Goals as goal
 
 pub loop-at-init : goal.loop-at-init
@@ -21,10 +21,10 @@ loop-at-init c =
 pub loop-at-preserved : goal.loop-at-preserved
 unfolding numbered_codec of_session
 loop-at-preserved c =
-    ⊎_elim
-    (λ w. marking_more c.loop-at.invariant (omega arith) (omega arith) (omega (arith, c.loop-at.invariant.lengths)) (eq-eqb _ _ (sym c.number_at.ensures ∙ w.0.taken)) w.1)
-    (λ w. marking_more c.loop-at.invariant (omega arith) (omega arith) (omega (arith, c.loop-at.invariant.lengths)) (ne_eqb _ _ (λ q. w.0.left (c.number_at.ensures ∙ q))) w.1)
-    c.if-number_at-session.branch
+    elim c.if-number_at-session.branch [
+      | then-number_at-session w ↦ marking_more c.loop-at.invariant (omega arith) (omega arith) (omega (arith, c.loop-at.invariant.lengths)) (eq-eqb _ _ (sym c.number_at.ensures ∙ w.if-number_at-session.true)) w.marks-is
+      | else-number_at-session w ↦ marking_more c.loop-at.invariant (omega arith) (omega arith) (omega (arith, c.loop-at.invariant.lengths)) (ne_eqb _ _ (λ q. w.if-number_at-session.false (c.number_at.ensures ∙ q))) w.marks-is
+    ]
 
 pub returns : goal.returns
 unfolding numbered_codec

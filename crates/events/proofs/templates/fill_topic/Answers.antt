@@ -2,19 +2,21 @@
 -- Assumes nothing.
 use mathlib.Core.Bool.{true, false}
 use borrow.Author.Rules.{rules}
+use Rattle.rule.specs.Places.{given}
 use Rattle.events.proofs.TemplateWalk.{fills_template, fills_none}
 use Rattle.events.proofs.templates.fill_topic.Goals as goal
 
 pub returns-in-Template : goal.returns-in-Template
 returns-in-Template c =
-    let whole = rw (← c.line_at-line.ensures)
-    (fills_template c.line_at-line.result.now _ _ _ _ false _ c.topic_at.ensures c.in-Template.is c.fill.ensures.value c.fill.ensures.buffer_after c.filled_as.ensures) in record { value = whole.0; buffer_after = whole.1 }
+    let whole = fills_template c.line_at-line.result.now c.args.buffer.now c.args.id.now (given c.args.name c.args.names.now) c.args.topic false _ c.topic_at.ensures c.in-Template.is c.fill.ensures.value c.fill.ensures.buffer_after c.filled_as.ensures in
+    record { value = rw (← c.line_at-line.ensures) whole.0; buffer_after = rw (← c.line_at-line.ensures) whole.1 }
 
 pub returns-in-EqTemplate : goal.returns-in-EqTemplate
 returns-in-EqTemplate c =
-    let whole = rw (← c.line_at-line.ensures)
-    (fills_template c.line_at-line.result.now _ _ _ _ true _ c.topic_at.ensures c.in-EqTemplate.is c.fill-in-EqTemplate.ensures.value c.fill-in-EqTemplate.ensures.buffer_after c.filled_as-in-EqTemplate.ensures) in record { value = whole.0; buffer_after = whole.1 }
+    let whole = fills_template c.line_at-line.result.now c.args.buffer.now c.args.id.now (given c.args.name c.args.names.now) c.args.topic true _ c.topic_at.ensures c.in-EqTemplate.is c.fill-in-EqTemplate.ensures.value c.fill-in-EqTemplate.ensures.buffer_after c.filled_as-in-EqTemplate.ensures in
+    record { value = rw (← c.line_at-line.ensures) whole.0; buffer_after = rw (← c.line_at-line.ensures) whole.1 }
 
 pub returns-in_default : goal.returns-in_default
 returns-in_default c =
-    let whole = rw (← c.line_at-line.ensures) (fills_none c.line_at-line.result.now _ _ _ _ _ c.topic_at.ensures c.in_default.keys3) in record { value = whole.0; buffer_after = whole.1 }
+    let whole = fills_none c.line_at-line.result.now c.args.buffer.now c.args.id.now (given c.args.name c.args.names.now) c.args.topic _ c.topic_at.ensures c.in_default.not-Template c.in_default.not-EqTemplate in
+    record { value = rw (← c.line_at-line.ensures) whole.0; buffer_after = rw (← c.line_at-line.ensures) whole.1 }

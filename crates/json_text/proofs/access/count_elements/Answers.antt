@@ -1,21 +1,14 @@
 -- The loop's invariant: what the elements from `i` on come to, behind `n` others, is what the array's come to, and no more elements
 -- than bytes were passed. The measure is what is left of the line. Assumes nothing.
-use mathlib.Core.Path.{◌≡◌, sym, ap, ◌∙◌}
-use mathlib.Core.Bool.{Bool, cond}
-use Prim.Native.Nat.{ℕ, ◌-◌, ◌≤◌, ◌<◌}
+use mathlib.Core.Path.{sym, ap, ◌∙◌}
+use mathlib.Core.Bool.{true, false, cond}
+use Prim.Native.Nat.{ℕ, ◌<◌}
 use native.Mathlib.Omega.{arith}
-use lib.ListN.{length}
-use borrow.Author.Tests.{not-true, not-false}
 use Rattle.json_text.specs.Json.{is_at}
-use Rattle.json_text.specs.Access.{element_count}
 use Rattle.json_text.specs.declared.Found.TheVariants.{Is}
-use Rattle.json_text.specs.declared.Separator.{Separator}
-use Rattle.json_text.specs.declared.Separator.TheVariants.{Comma}
-use Rattle.json_text.specs.declared.Step.{Step}
 use Rattle.json_text.proofs.ScanLaws.{at_within, comma_next}
 use Rattle.json_text.proofs.ValueLaws.{elements_from, elements_past, value_forward}
 use Rattle.json_text.proofs.AccessSteps.{counted, count_closed, count_by, count_behind, count_on, count_step}
-use borrow.Author.Rules.{rules}
 use Rattle.json_text.proofs.access.count_elements.Goals as goal
 
 pub returns-then-not-is_at : goal.returns-then-not-is_at
@@ -28,77 +21,57 @@ overflow_add-at c =
 
 pub returns-then-is_at : goal.returns-then-is_at
 returns-then-is_at c =
-    let from_first : {closes : Bool} →
-    c.is_at-2.result ≡ closes
-    → cond closes (Is 0) (counted 0 (elements_from 7 c.args.line.now c.skip_blanks-first.result)) ≡ element_count c.args.line.now c.args.at = λ {closes} e. ap (λ (p : ℕ). cond closes (Is 0) (counted 0 (elements_from 7 c.args.line.now p))) c.skip_blanks-first.ensures
+    ap (λ (p : ℕ). cond true (Is 0) (counted 0 (elements_from 7 c.args.line.now p))) c.skip_blanks-first.ensures
     ∙ sym
     (count_by c.args.line.now c.args.at (sym c.is_at.ensures ∙ c.if-not-is_at.false)
-    (ap (λ (p : ℕ). is_at c.args.line.now p 0x5d) (sym c.skip_blanks-first.ensures) ∙ (sym c.is_at-2.ensures ∙ e))) in
-    from_first c.if-is_at.true
+    (ap (λ (p : ℕ). is_at c.args.line.now p 0x5d) (sym c.skip_blanks-first.ensures) ∙ (sym c.is_at-2.ensures ∙ c.if-is_at.true)))
 
 pub loop-i-init : goal.loop-i-init
-loop-i-init c =
-    let from_first : {closes : Bool} →
-    c.is_at-2.result ≡ closes
-    → cond closes (Is 0) (counted 0 (elements_from 7 c.args.line.now c.skip_blanks-first.result)) ≡ element_count c.args.line.now c.args.at = λ {closes} e. ap (λ (p : ℕ). cond closes (Is 0) (counted 0 (elements_from 7 c.args.line.now p))) c.skip_blanks-first.ensures
-    ∙ sym
-    (count_by c.args.line.now c.args.at (sym c.is_at.ensures ∙ c.if-not-is_at.false)
-    (ap (λ (p : ℕ). is_at c.args.line.now p 0x5d) (sym c.skip_blanks-first.ensures) ∙ (sym c.is_at-2.ensures ∙ e))) in
-    (omega arith, from_first c.if-is_at.false)
+loop-i-init c = (
+  omega arith,
+  ap (λ (p : ℕ). cond false (Is 0) (counted 0 (elements_from 7 c.args.line.now p))) c.skip_blanks-first.ensures
+      ∙ sym
+      (count_by c.args.line.now c.args.at (sym c.is_at.ensures ∙ c.if-not-is_at.false)
+      (ap (λ (p : ℕ). is_at c.args.line.now p 0x5d) (sym c.skip_blanks-first.ensures) ∙ (sym c.is_at-2.ensures ∙ c.if-is_at.false))),
+)
 
 pub returns-in-Bad : goal.returns-in-Bad
 unfolding count_on
 returns-in-Bad c =
-    let behind_value : {step : Step} →
-    c.value.result ≡ step → count_on c.args.line.now c.loop-i.n step ≡ element_count c.args.line.now c.args.at = λ e. sym (count_step c.args.line.now c.loop-i.n c.loop-i.i c.loop-i-test.true (sym c.value.ensures ∙ e)) ∙ c.loop-i.invariant.1 in
-    behind_value c.in-Bad.is
+    sym (count_step c.args.line.now c.loop-i.n c.loop-i.i c.loop-i-test.true (sym c.value.ensures ∙ c.in-Bad.is)) ∙ c.loop-i.invariant.1
 
 pub returns-in-Close : goal.returns-in-Close
-unfolding count_behind
-unfolding count_on
+unfolding count_behind count_on
 returns-in-Close c =
-    let behind_value : {step : Step} →
-    c.value.result ≡ step → count_on c.args.line.now c.loop-i.n step ≡ element_count c.args.line.now c.args.at = λ e. sym (count_step c.args.line.now c.loop-i.n c.loop-i.i c.loop-i-test.true (sym c.value.ensures ∙ e)) ∙ c.loop-i.invariant.1 in
-    let onward : {s : Separator} →
-    c.separator.result ≡ s → count_behind c.args.line.now c.loop-i.n s ≡ element_count c.args.line.now c.args.at = λ e. ap (count_behind c.args.line.now c.loop-i.n) (sym e ∙ c.separator.ensures)
-    ∙ behind_value c.in-Next.is in
-    onward c.in-Close.is
+    ap (count_behind c.args.line.now c.loop-i.n) (sym c.in-Close.is ∙ c.separator.ensures)
+    ∙ (sym (count_step c.args.line.now c.loop-i.n c.loop-i.i c.loop-i-test.true (sym c.value.ensures ∙ c.in-Next.is)) ∙ c.loop-i.invariant.1)
 
 pub loop-i-smaller : goal.loop-i-smaller
 loop-i-smaller c =
-    let forward : {next : ℕ} → c.separator.result ≡ Comma next → c.loop-i.i < next = λ e. omega (
+    omega (
       arith,
       value_forward 7 c.args.line.now c.loop-i.i 0 (sym c.value.ensures ∙ c.in-Next.is),
-      comma_next c.args.line.now c.in-Next.c.at 0x5d (sym c.separator.ensures ∙ e),
-    ) in
-    omega (arith, forward c.in-Comma.is)
+      comma_next c.args.line.now c.in-Next.c.at 0x5d (sym c.separator.ensures ∙ c.in-Comma.is),
+    )
 
 pub loop-i-preserved : goal.loop-i-preserved
-unfolding count_behind
-unfolding count_on
+unfolding count_behind count_on
 loop-i-preserved c =
-    let forward : {next : ℕ} → c.separator.result ≡ Comma next → c.loop-i.i < next = λ e. omega (
+    let forward : c.loop-i.i < c.in-Comma.next = omega (
       arith,
       value_forward 7 c.args.line.now c.loop-i.i 0 (sym c.value.ensures ∙ c.in-Next.is),
-      comma_next c.args.line.now c.in-Next.c.at 0x5d (sym c.separator.ensures ∙ e),
-    ) in
-    let behind_value : {step : Step} →
-    c.value.result ≡ step → count_on c.args.line.now c.loop-i.n step ≡ element_count c.args.line.now c.args.at = λ e. sym (count_step c.args.line.now c.loop-i.n c.loop-i.i c.loop-i-test.true (sym c.value.ensures ∙ e)) ∙ c.loop-i.invariant.1 in
-    let onward : {s : Separator} →
-    c.separator.result ≡ s → count_behind c.args.line.now c.loop-i.n s ≡ element_count c.args.line.now c.args.at = λ e. ap (count_behind c.args.line.now c.loop-i.n) (sym e ∙ c.separator.ensures)
-    ∙ behind_value c.in-Next.is in
-    (omega (arith, forward c.in-Comma.is), onward c.in-Comma.is)
+      comma_next c.args.line.now c.in-Next.c.at 0x5d (sym c.separator.ensures ∙ c.in-Comma.is),
+    ) in (
+      omega arith,
+      ap (count_behind c.args.line.now c.loop-i.n) (sym c.in-Comma.is ∙ c.separator.ensures)
+          ∙ (sym (count_step c.args.line.now c.loop-i.n c.loop-i.i c.loop-i-test.true (sym c.value.ensures ∙ c.in-Next.is)) ∙ c.loop-i.invariant.1),
+    )
 
 pub returns-in-Neither : goal.returns-in-Neither
-unfolding count_behind
-unfolding count_on
+unfolding count_behind count_on
 returns-in-Neither c =
-    let behind_value : {step : Step} →
-    c.value.result ≡ step → count_on c.args.line.now c.loop-i.n step ≡ element_count c.args.line.now c.args.at = λ e. sym (count_step c.args.line.now c.loop-i.n c.loop-i.i c.loop-i-test.true (sym c.value.ensures ∙ e)) ∙ c.loop-i.invariant.1 in
-    let onward : {s : Separator} →
-    c.separator.result ≡ s → count_behind c.args.line.now c.loop-i.n s ≡ element_count c.args.line.now c.args.at = λ e. ap (count_behind c.args.line.now c.loop-i.n) (sym e ∙ c.separator.ensures)
-    ∙ behind_value c.in-Next.is in
-    onward c.in-Neither.is
+    ap (count_behind c.args.line.now c.loop-i.n) (sym c.in-Neither.is ∙ c.separator.ensures)
+    ∙ (sym (count_step c.args.line.now c.loop-i.n c.loop-i.i c.loop-i-test.true (sym c.value.ensures ∙ c.in-Next.is)) ∙ c.loop-i.invariant.1)
 
 pub returns : goal.returns
 unfolding counted

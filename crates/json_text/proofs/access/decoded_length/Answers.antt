@@ -1,7 +1,6 @@
 -- The length is that of the string. Assumes nothing.
 use mathlib.Core.Path.{sym, ◌∙◌}
 use Rattle.json_text.proofs.AccessSteps.{length_in, length_by}
-use borrow.Author.Rules.{rules}
 use Rattle.json_text.proofs.access.decoded_length.Goals as goal
 
 pub returns-in-Text : goal.returns-in-Text

@@ -2,12 +2,10 @@
 use mathlib.Core.Path.{refl, sym, ap, ◌∙◌}
 use Prim.Native.Nat.{ℕ}
 use native.Mathlib.Omega.{arith}
-use borrow.Author.Tests.{not-true, not-false}
 use Rattle.json_text.specs.Json.{is_at}
 use Rattle.json_text.proofs.ScanLaws.{at_within}
 use Rattle.json_text.proofs.AccessSteps.{first_by_lem}
 use Rattle.json_text.specs.declared.Place.TheVariants.{At}
-use borrow.Author.Rules.{rules}
 use Rattle.json_text.proofs.access.first_item.Goals as goal
 
 pub returns-then-not-is_at : goal.returns-then-not-is_at

@@ -4,7 +4,6 @@ use Rattle.json_text.specs.Json.{kind_of}
 use Rattle.json_text.specs.Access.{kind_at}
 use Rattle.json_text.proofs.ScanLaws.{byte_here}
 use Rattle.json_text.proofs.AccessSteps.{kind_past}
-use borrow.Author.Rules.{rules}
 use Rattle.json_text.proofs.access.kind_at.Goals as goal
 
 pub returns-then-line-at : goal.returns-then-line-at

@@ -1,21 +1,16 @@
 -- The loop's invariant: the last of the members from `i` on with the name, behind others of which `found` was the last, is that of the
 -- object. The measure is what is left of the line. Assumes nothing.
 use mathlib.Core.Path.{◌≡◌, sym, ap, ◌∙◌}
-use Prim.Native.Nat.{ℕ, ◌-◌, ◌<◌}
 use native.Mathlib.Omega.{arith}
 use mathlib.Core.Bool.{Bool, true, cond}
-use mathlib.Core.Logic.{⊎_elim}
-use lib.ListN.{length}
-use Rattle.json_text.specs.Access.{string_is, member_value, member_named}
+use Rattle.json_text.specs.Access.{string_is, member_value}
 use Rattle.json_text.specs.declared.Place.{Place}
-use Rattle.json_text.specs.declared.Separator.{Separator}
-use Rattle.json_text.specs.declared.Separator.TheVariants.{Comma}
-use Rattle.json_text.specs.declared.Step.{Step}
+use Rattle.json_text.specs.declared.Step.TheVariants.{Next, Bad}
 use Rattle.json_text.proofs.ScanLaws.{comma_next}
-use Rattle.json_text.proofs.ValueLaws.{members_from, members_past, item_next}
+use Rattle.json_text.proofs.ValueLaws.{members_past, item_next}
 use Rattle.json_text.proofs.AccessSteps.{last_in, named_from, named_by, named_behind, named_on, named_step}
-use borrow.Author.Rules.{rules}
 use Rattle.json_text.proofs.access.member.Goals as goal
+use Rattle.json_text.proofs.access.member.Goals.{then-string_is, else-string_is}
 
 pub returns-in_default : goal.returns-in_default
 unfolding named_from
@@ -30,74 +25,53 @@ loop-i-init c =
 pub returns-in-Bad : goal.returns-in-Bad
 unfolding named_on
 returns-in-Bad c =
-    let found_here : c.if-string_is.found ≡ cond (string_is c.args.line.now c.loop-i.i c.args.wanted.now) (member_value c.args.line.now c.loop-i.i) c.loop-i.found = let pick : Bool → Place = λ b. cond b (member_value c.args.line.now c.loop-i.i) c.loop-i.found in
-    ⊎_elim (λ w. w.2 ∙ (w.1.ensures ∙ ap pick (sym (sym c.string_is.ensures ∙ w.0.taken))))
-    (λ w. w.1 ∙ ap pick (sym (sym c.string_is.ensures ∙ w.0.left))) c.if-string_is.branch in
-    let behind_item : {step : Step} →
-    c.item.result ≡ step
-    → named_on c.args.wanted.now c.args.line.now c.if-string_is.found step ≡ member_named c.args.wanted.now c.args.line.now c.args.at = λ {step} e. ap (λ (f : Place). named_on c.args.wanted.now c.args.line.now f step) (found_here)
-    ∙ (sym (named_step c.args.wanted.now c.args.line.now c.loop-i.found c.loop-i.i c.loop-i-test.true (sym c.item.ensures ∙ e)) ∙ c.loop-i.invariant) in
-    behind_item c.in-Bad.is
+    let found_here : c.if-string_is.found ≡ cond (string_is c.args.line.now c.loop-i.i c.args.wanted.now) (member_value c.args.line.now c.loop-i.i) c.loop-i.found = elim c.if-string_is.branch [
+      | then-string_is w ↦ w.found-is ∙ (w.member_value-found.ensures ∙ ap (λ (b : Bool). cond b (member_value c.args.line.now c.loop-i.i) c.loop-i.found) (sym (sym c.string_is.ensures ∙ w.if-string_is.true)))
+      | else-string_is w ↦ w.found-is ∙ ap (λ (b : Bool). cond b (member_value c.args.line.now c.loop-i.i) c.loop-i.found) (sym (sym c.string_is.ensures ∙ w.if-string_is.false))
+    ] in
+    ap (λ (f : Place). named_on c.args.wanted.now c.args.line.now f Bad) found_here
+    ∙ (sym (named_step c.args.wanted.now c.args.line.now c.loop-i.found c.loop-i.i c.loop-i-test.true (sym c.item.ensures ∙ c.in-Bad.is)) ∙ c.loop-i.invariant)
 
 pub returns-in-Close : goal.returns-in-Close
-unfolding named_behind
-unfolding named_on
+unfolding named_behind named_on
 returns-in-Close c =
-    let found_here : c.if-string_is.found ≡ cond (string_is c.args.line.now c.loop-i.i c.args.wanted.now) (member_value c.args.line.now c.loop-i.i) c.loop-i.found = let pick : Bool → Place = λ b. cond b (member_value c.args.line.now c.loop-i.i) c.loop-i.found in
-    ⊎_elim (λ w. w.2 ∙ (w.1.ensures ∙ ap pick (sym (sym c.string_is.ensures ∙ w.0.taken))))
-    (λ w. w.1 ∙ ap pick (sym (sym c.string_is.ensures ∙ w.0.left))) c.if-string_is.branch in
-    let behind_item : {step : Step} →
-    c.item.result ≡ step
-    → named_on c.args.wanted.now c.args.line.now c.if-string_is.found step ≡ member_named c.args.wanted.now c.args.line.now c.args.at = λ {step} e. ap (λ (f : Place). named_on c.args.wanted.now c.args.line.now f step) (found_here)
-    ∙ (sym (named_step c.args.wanted.now c.args.line.now c.loop-i.found c.loop-i.i c.loop-i-test.true (sym c.item.ensures ∙ e)) ∙ c.loop-i.invariant) in
-    let onward : {s : Separator} →
-    c.separator.result ≡ s
-    → named_behind c.args.wanted.now c.args.line.now c.if-string_is.found s ≡ member_named c.args.wanted.now c.args.line.now c.args.at = λ e. ap (named_behind c.args.wanted.now c.args.line.now c.if-string_is.found) (sym e ∙ c.separator.ensures)
-    ∙ behind_item c.in-Next.is in
-    onward c.in-Close.is
+    let found_here : c.if-string_is.found ≡ cond (string_is c.args.line.now c.loop-i.i c.args.wanted.now) (member_value c.args.line.now c.loop-i.i) c.loop-i.found = elim c.if-string_is.branch [
+      | then-string_is w ↦ w.found-is ∙ (w.member_value-found.ensures ∙ ap (λ (b : Bool). cond b (member_value c.args.line.now c.loop-i.i) c.loop-i.found) (sym (sym c.string_is.ensures ∙ w.if-string_is.true)))
+      | else-string_is w ↦ w.found-is ∙ ap (λ (b : Bool). cond b (member_value c.args.line.now c.loop-i.i) c.loop-i.found) (sym (sym c.string_is.ensures ∙ w.if-string_is.false))
+    ] in
+    ap (named_behind c.args.wanted.now c.args.line.now c.if-string_is.found) (sym c.in-Close.is ∙ c.separator.ensures)
+    ∙ (ap (λ (f : Place). named_on c.args.wanted.now c.args.line.now f (Next c.in-Next.c)) found_here
+    ∙ (sym (named_step c.args.wanted.now c.args.line.now c.loop-i.found c.loop-i.i c.loop-i-test.true (sym c.item.ensures ∙ c.in-Next.is)) ∙ c.loop-i.invariant))
 
 pub loop-i-smaller : goal.loop-i-smaller
 loop-i-smaller c =
-    let forward : {next : ℕ} → c.separator.result ≡ Comma next → c.loop-i.i < next = λ e. omega (
+    omega (
       arith,
       item_next 7 c.args.line.now true 0 c.loop-i.i (sym c.item.ensures ∙ c.in-Next.is),
-      comma_next c.args.line.now c.in-Next.c.at 0x7d (sym c.separator.ensures ∙ e),
-    ) in
-    omega (arith, forward c.in-Comma.is)
+      comma_next c.args.line.now c.in-Next.c.at 0x7d (sym c.separator.ensures ∙ c.in-Comma.is),
+    )
 
 pub loop-i-preserved : goal.loop-i-preserved
-unfolding named_behind
-unfolding named_on
+unfolding named_behind named_on
 loop-i-preserved c =
-    let found_here : c.if-string_is.found ≡ cond (string_is c.args.line.now c.loop-i.i c.args.wanted.now) (member_value c.args.line.now c.loop-i.i) c.loop-i.found = let pick : Bool → Place = λ b. cond b (member_value c.args.line.now c.loop-i.i) c.loop-i.found in
-    ⊎_elim (λ w. w.2 ∙ (w.1.ensures ∙ ap pick (sym (sym c.string_is.ensures ∙ w.0.taken))))
-    (λ w. w.1 ∙ ap pick (sym (sym c.string_is.ensures ∙ w.0.left))) c.if-string_is.branch in
-    let behind_item : {step : Step} →
-    c.item.result ≡ step
-    → named_on c.args.wanted.now c.args.line.now c.if-string_is.found step ≡ member_named c.args.wanted.now c.args.line.now c.args.at = λ {step} e. ap (λ (f : Place). named_on c.args.wanted.now c.args.line.now f step) (found_here)
-    ∙ (sym (named_step c.args.wanted.now c.args.line.now c.loop-i.found c.loop-i.i c.loop-i-test.true (sym c.item.ensures ∙ e)) ∙ c.loop-i.invariant) in
-    let onward : {s : Separator} →
-    c.separator.result ≡ s
-    → named_behind c.args.wanted.now c.args.line.now c.if-string_is.found s ≡ member_named c.args.wanted.now c.args.line.now c.args.at = λ e. ap (named_behind c.args.wanted.now c.args.line.now c.if-string_is.found) (sym e ∙ c.separator.ensures)
-    ∙ behind_item c.in-Next.is in
-    onward c.in-Comma.is
+    let found_here : c.if-string_is.found ≡ cond (string_is c.args.line.now c.loop-i.i c.args.wanted.now) (member_value c.args.line.now c.loop-i.i) c.loop-i.found = elim c.if-string_is.branch [
+      | then-string_is w ↦ w.found-is ∙ (w.member_value-found.ensures ∙ ap (λ (b : Bool). cond b (member_value c.args.line.now c.loop-i.i) c.loop-i.found) (sym (sym c.string_is.ensures ∙ w.if-string_is.true)))
+      | else-string_is w ↦ w.found-is ∙ ap (λ (b : Bool). cond b (member_value c.args.line.now c.loop-i.i) c.loop-i.found) (sym (sym c.string_is.ensures ∙ w.if-string_is.false))
+    ] in
+    ap (named_behind c.args.wanted.now c.args.line.now c.if-string_is.found) (sym c.in-Comma.is ∙ c.separator.ensures)
+    ∙ (ap (λ (f : Place). named_on c.args.wanted.now c.args.line.now f (Next c.in-Next.c)) found_here
+    ∙ (sym (named_step c.args.wanted.now c.args.line.now c.loop-i.found c.loop-i.i c.loop-i-test.true (sym c.item.ensures ∙ c.in-Next.is)) ∙ c.loop-i.invariant))
 
 pub returns-in-Neither : goal.returns-in-Neither
-unfolding named_behind
-unfolding named_on
+unfolding named_behind named_on
 returns-in-Neither c =
-    let found_here : c.if-string_is.found ≡ cond (string_is c.args.line.now c.loop-i.i c.args.wanted.now) (member_value c.args.line.now c.loop-i.i) c.loop-i.found = let pick : Bool → Place = λ b. cond b (member_value c.args.line.now c.loop-i.i) c.loop-i.found in
-    ⊎_elim (λ w. w.2 ∙ (w.1.ensures ∙ ap pick (sym (sym c.string_is.ensures ∙ w.0.taken))))
-    (λ w. w.1 ∙ ap pick (sym (sym c.string_is.ensures ∙ w.0.left))) c.if-string_is.branch in
-    let behind_item : {step : Step} →
-    c.item.result ≡ step
-    → named_on c.args.wanted.now c.args.line.now c.if-string_is.found step ≡ member_named c.args.wanted.now c.args.line.now c.args.at = λ {step} e. ap (λ (f : Place). named_on c.args.wanted.now c.args.line.now f step) (found_here)
-    ∙ (sym (named_step c.args.wanted.now c.args.line.now c.loop-i.found c.loop-i.i c.loop-i-test.true (sym c.item.ensures ∙ e)) ∙ c.loop-i.invariant) in
-    let onward : {s : Separator} →
-    c.separator.result ≡ s
-    → named_behind c.args.wanted.now c.args.line.now c.if-string_is.found s ≡ member_named c.args.wanted.now c.args.line.now c.args.at = λ e. ap (named_behind c.args.wanted.now c.args.line.now c.if-string_is.found) (sym e ∙ c.separator.ensures)
-    ∙ behind_item c.in-Next.is in
-    onward c.in-Neither.is
+    let found_here : c.if-string_is.found ≡ cond (string_is c.args.line.now c.loop-i.i c.args.wanted.now) (member_value c.args.line.now c.loop-i.i) c.loop-i.found = elim c.if-string_is.branch [
+      | then-string_is w ↦ w.found-is ∙ (w.member_value-found.ensures ∙ ap (λ (b : Bool). cond b (member_value c.args.line.now c.loop-i.i) c.loop-i.found) (sym (sym c.string_is.ensures ∙ w.if-string_is.true)))
+      | else-string_is w ↦ w.found-is ∙ ap (λ (b : Bool). cond b (member_value c.args.line.now c.loop-i.i) c.loop-i.found) (sym (sym c.string_is.ensures ∙ w.if-string_is.false))
+    ] in
+    ap (named_behind c.args.wanted.now c.args.line.now c.if-string_is.found) (sym c.in-Neither.is ∙ c.separator.ensures)
+    ∙ (ap (λ (f : Place). named_on c.args.wanted.now c.args.line.now f (Next c.in-Next.c)) found_here
+    ∙ (sym (named_step c.args.wanted.now c.args.line.now c.loop-i.found c.loop-i.i c.loop-i-test.true (sym c.item.ensures ∙ c.in-Next.is)) ∙ c.loop-i.invariant))
 
 pub returns : goal.returns
 unfolding last_in

@@ -4,7 +4,6 @@ use lib.ListN.{length}
 use Rattle.json_text.specs.Json.{name_at}
 use Rattle.json_text.specs.Access.{member_value}
 use Rattle.json_text.proofs.AccessSteps.{place_of, behind_by}
-use borrow.Author.Rules.{rules}
 use Rattle.json_text.proofs.access.member_value.Goals as goal
 
 pub returns-in-Next : goal.returns-in-Next

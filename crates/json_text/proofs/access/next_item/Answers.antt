@@ -4,7 +4,6 @@ use native.Mathlib.Omega.{arith}
 use Rattle.json_text.proofs.ScanLaws.{at_within}
 use Rattle.json_text.proofs.AccessSteps.{next_bad, next_by}
 use Rattle.json_text.specs.declared.Place.TheVariants.{At}
-use borrow.Author.Rules.{rules}
 use Rattle.json_text.proofs.access.next_item.Goals as goal
 
 pub overflow_add-p : goal.overflow_add-p

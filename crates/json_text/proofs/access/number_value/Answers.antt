@@ -1,7 +1,6 @@
 -- The number's value is that of the digits. Assumes nothing.
 use mathlib.Core.Path.{sym, ◌∙◌}
 use Rattle.json_text.proofs.AccessSteps.{number_in, number_by}
-use borrow.Author.Rules.{rules}
 use Rattle.json_text.proofs.access.number_value.Goals as goal
 
 pub returns-in-Value : goal.returns-in-Value

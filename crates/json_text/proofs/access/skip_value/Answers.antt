@@ -3,7 +3,6 @@ use mathlib.Core.Path.{sym, ◌∙◌}
 use Rattle.json_text.specs.Json.{longest}
 use Rattle.json_text.specs.Access.{value_here}
 use Rattle.json_text.proofs.AccessSteps.{place_of, behind_by}
-use borrow.Author.Rules.{rules}
 use Rattle.json_text.proofs.access.skip_value.Goals as goal
 
 pub returns-in-Next : goal.returns-in-Next

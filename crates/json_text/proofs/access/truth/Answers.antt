@@ -1,7 +1,6 @@
 -- The bool is that of the word. Assumes nothing.
 use mathlib.Core.Path.{sym, ◌∙◌}
 use Rattle.json_text.proofs.AccessSteps.{truth_in, truth_by}
-use borrow.Author.Rules.{rules}
 use Rattle.json_text.proofs.access.truth.Goals as goal
 
 pub returns-in-True : goal.returns-in-True

@@ -1,10 +1,7 @@
 -- The loop's invariant: `n` with the number of lines from `at` on is the number of lines, and `n` is at most `most`. The measure is
 -- what is left of the text. Assumes nothing.
-use Prim.Native.Nat.{◌-◌}
 use native.Mathlib.Omega.{arith}
-use lib.ListN.{length}
-use Rattle.json_text.proofs.LineLaws.{Counted, counted_more, counted_past, counted_all, next_after}
-use borrow.Author.Rules.{rules}
+use Rattle.json_text.proofs.LineLaws.{counted_more, counted_past, counted_all, next_after}
 use Rattle.json_text.proofs.splitting.count_lines.Goals as goal
 
 pub loop-at-init : goal.loop-at-init

@@ -2,7 +2,6 @@
 use native.Mathlib.Omega.{arith}
 use mathlib.Core.Path.{sym}
 use Rattle.json_text.proofs.LineLaws.{line_past, line_part, line_within}
-use borrow.Author.Rules.{rules}
 use Rattle.json_text.proofs.splitting.line_at.Goals as goal
 
 pub returns-then-text-at : goal.returns-then-text-at

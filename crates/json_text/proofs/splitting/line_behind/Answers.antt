@@ -1,7 +1,6 @@
 -- By its test. Assumes nothing.
 use lib.ListN.{length}
 use borrow.Author.Tests.{lt-ltb, le-ltb}
-use borrow.Author.Rules.{rules}
 use Rattle.json_text.specs.Lines.{line_behind}
 use Rattle.json_text.proofs.splitting.line_behind.Goals as goal
 

@@ -1,12 +1,8 @@
 -- The loop's invariant: the line that begins at `i` ends where the line that begins at `at` does. The measure is what is left of
 -- the text. Assumes nothing.
-use Prim.Native.Nat.{◌+◌, ◌-◌}
 use native.Mathlib.Omega.{arith}
-use mathlib.Core.Path.{◌≡◌, refl, sym, ◌∙◌}
-use lib.ListN.{length}
-use Rattle.json_text.specs.Lines.{line_at}
+use mathlib.Core.Path.{sym, ◌∙◌}
 use Rattle.json_text.proofs.LineLaws.{end_past, end_lf, end_onward}
-use borrow.Author.Rules.{rules}
 use Rattle.json_text.proofs.splitting.line_end.Goals as goal
 
 pub loop-i-init : goal.loop-i-init

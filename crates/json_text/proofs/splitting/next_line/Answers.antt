@@ -1,6 +1,5 @@
 -- Behind the line's end. Assumes nothing.
 use Rattle.json_text.proofs.LineLaws.{next_from_end}
-use borrow.Author.Rules.{rules}
 use Rattle.json_text.proofs.splitting.next_line.Goals as goal
 
 pub returns : goal.returns

@@ -1,6 +1,5 @@
 -- The line goes on to the same end behind bytes of it. Assumes nothing.
 use mathlib.Core.Path.{sym, ◌∙◌}
-use borrow.Author.Rules.{rules}
 use Rattle.json_text.proofs.LineLaws.{end_later}
 use Rattle.json_text.proofs.splitting.past.Goals as goal
 

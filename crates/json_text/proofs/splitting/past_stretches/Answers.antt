@@ -1,12 +1,6 @@
 -- The loop's invariant: the line that begins at `i` ends where the line that begins at `at` does. The measure is what is left of
 -- the text. Assumes nothing.
-use Prim.Native.Nat.{◌+◌, ◌-◌}
-use native.Mathlib.Omega.{arith}
-use mathlib.Core.Path.{◌≡◌, refl, sym, ◌∙◌}
-use lib.ListN.{length}
-use borrow.Author.Rules.{rules}
-use borrow.Author.Tests.{not-false}
-use Rattle.json_text.specs.Lines.{line_at}
+use mathlib.Core.Path.{refl, sym, ◌∙◌}
 use Rattle.json_text.proofs.LineLaws.{end_later}
 use Rattle.json_text.proofs.splitting.past_stretches.Goals as goal
 

@@ -1,12 +1,10 @@
 -- `json::splitting::within_line` meets its contract. The loop's invariant: `within` says whether the line has `i` bytes. The measure is
 -- what is left of the `n`. Assumes nothing.
 use Prim.Native.Nat.{◌-◌, ◌≤◌}
-use mathlib.Core.Path.{◌≡◌, sym, ap, ◌∙◌}
-use native.Mathlib.Omega.{arith}
-use lib.Dec.{leb, leb-zero}
+use mathlib.Core.Path.{◌≡◌}
+use lib.Dec.{leb}
 use lib.ListN.{length}
 use Rattle.json_text.specs.Lines.{line_at}
-use Rattle.json_text.proofs.LineLaws.{line_longer}
 use Rattle.json_text.proofs.splitting.within_line.Given as goal
 
 abbrev pub invariant-loop-i : goal.invariant-loop-i

@@ -1,10 +1,8 @@
 -- The encoded bytes are compared. Assumes nothing.
 use native.Mathlib.Omega.{arith}
-use mathlib.Core.Path.{◌≡◌, refl, sym, ap, ◌∙◌}
-use Rattle.json_text.proofs.Utf8Laws.{utf8_size}
+use mathlib.Core.Path.{ap, ◌∙◌}
 use Rattle.text.specs.Text.{begins}
 use lib.ListN.{length, length-take}
-use borrow.Author.Rules.{rules}
 use Rattle.json_text.proofs.strings.begins_with.Goals as goal
 
 pub slice_bounds-bytes-end : goal.slice_bounds-bytes-end

@@ -1,7 +1,6 @@
 -- The answer is whether the text fits at the front. Assumes nothing.
 use mathlib.Core.Path.{sym, ◌∙◌}
 use mathlib.Core.Bool.{true, false}
-use borrow.Author.Rules.{rules}
 use Rattle.json_text.proofs.PlainLaws.{pasted_front, copied_by}
 use Rattle.json_text.proofs.strings.copy_text.Goals as goal
 

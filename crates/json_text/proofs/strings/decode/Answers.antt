@@ -1,7 +1,6 @@
 -- Where a plain string was found it is copied as it stands, and else piece by piece. Assumes nothing.
-use mathlib.Core.Path.{◌≡◌, sym, ◌∙◌}
+use mathlib.Core.Path.{sym, ◌∙◌}
 use native.Mathlib.Omega.{arith}
-use borrow.Author.Rules.{rules}
 use Rattle.json_text.proofs.PlainLaws.{Plain, plain_string, copied-plain}
 use Rattle.json_text.proofs.strings.decode.Goals as goal
 

@@ -1,10 +1,8 @@
 -- A scan says whether there is a string and whether it fits. Assumes nothing.
-use native.Mathlib.Omega.{arith}
-use mathlib.Core.Path.{◌≡◌, refl, sym, ap, ◌∙◌}
+use mathlib.Core.Path.{sym, ◌∙◌}
 use lib.ListN.{length}
 use Rattle.json_text.proofs.StringLaws.{scanned-text, scanned_bad, copied_none, copied_over, copied_fits, found-fits}
 use Rattle.json_text.specs.Strings.{string_at}
-use borrow.Author.Rules.{rules}
 use Rattle.json_text.proofs.strings.decode_pieces.Goals as goal
 
 pub returns-then-buffer-n : goal.returns-then-buffer-n

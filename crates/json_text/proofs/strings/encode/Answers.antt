@@ -1,10 +1,8 @@
 -- The bytes are those of `utf8`, by its ranges. Assumes nothing.
-use native.Mathlib.Omega.{arith}
-use mathlib.Core.Path.{◌≡◌, refl, sym, ap, ◌∙◌}
+use mathlib.Core.Path.{refl, sym, ap}
 use lib.ListN.{length}
 use Rattle.json_text.proofs.Utf8Laws.{utf8_by}
 use borrow.Author.Tests.{lt-ltb, le-ltb}
-use borrow.Author.Rules.{rules}
 use Rattle.json_text.proofs.strings.encode.Goals as goal
 
 pub returns-then-c-lt128 : goal.returns-then-c-lt128

@@ -1,16 +1,15 @@
 -- Each return has the tests of `escape` that led there. Assumes nothing.
 use native.Mathlib.Omega.{arith}
-use mathlib.Core.Path.{◌≡◌, refl, sym, ap, ◌∙◌}
-use Prim.Native.Nat.{ℕ, ◌+◌}
+use mathlib.Core.Path.{refl, sym, ap, ◌∙◌}
+use Prim.Native.Nat.{ℕ}
 use lib.Dec.{eqb}
-use lib.ListN.{length, drop, drop_of_length-le}
+use lib.ListN.{drop, drop_of_length-le}
 use lib.Seq.{drop-drop}
 use Rattle.json_text.proofs.Utf8Laws.{byte_first}
 use Rattle.json_text.proofs.PieceLaws.{escape_by, escape_nothing}
 use Rattle.json_text.specs.Strings.{escape, unicode, short_escape}
 use borrow.Author.Tests.{eq-eqb, ne_eqb}
 use Rattle.json_text.specs.declared.Piece.TheVariants.{Escaped}
-use borrow.Author.Rules.{rules}
 use Rattle.json_text.proofs.strings.escape_at.Goals as goal
 
 pub returns-then-line-at : goal.returns-then-line-at

@@ -1,12 +1,10 @@
 -- Each return has the first byte that is no digit, or four digits. Assumes nothing.
 use native.Mathlib.Omega.{arith}
-use mathlib.Core.Path.{◌≡◌, refl, sym, ap, ◌∙◌}
-use Prim.Native.Nat.{◌+◌}
-use lib.ListN.{length, drop, length-drop}
+use mathlib.Core.Path.{sym, ap, ◌∙◌}
+use lib.ListN.{drop, length-drop}
 use Rattle.json_text.proofs.Utf8Laws.{byte_here, byte_first}
 use Rattle.json_text.proofs.PieceLaws.{hex4_no, hex4_yes, hex4_short}
 use Rattle.json_text.specs.Strings.{hex_digit}
-use borrow.Author.Rules.{rules}
 use Rattle.json_text.proofs.strings.hex4.Goals as goal
 
 pub returns-then-line-at : goal.returns-then-line-at

@@ -1,9 +1,8 @@
 -- The ranges of the digits, by the tests that led to each return. Assumes nothing.
 use native.Mathlib.Omega.{arith}
-use mathlib.Core.Path.{◌≡◌, refl, sym, ap, ◌∙◌}
+use mathlib.Core.Path.{refl, sym, ◌∙◌}
 use Rattle.json_text.proofs.Utf8Laws.{within_told}
 use Rattle.json_text.proofs.PieceLaws.{hex_by}
-use borrow.Author.Rules.{rules}
 use Rattle.json_text.proofs.strings.hex_digit.Goals as goal
 
 pub overflow_sub-result : goal.overflow_sub-result

@@ -1,9 +1,7 @@
 -- A quote, a backslash, and the range. Assumes nothing.
-use mathlib.Core.Path.{◌≡◌, refl, sym, ap, ◌∙◌}
-use mathlib.Core.Bool.{not}
+use mathlib.Core.Path.{refl, sym}
 use Rattle.json_text.proofs.PieceLaws.{plain_by}
 use borrow.Author.Tests.{eq-eqb, ne_eqb}
-use borrow.Author.Rules.{rules}
 use Rattle.json_text.proofs.strings.is_plain.Goals as goal
 
 pub returns-then-b-eq34 : goal.returns-then-b-eq34

@@ -1,15 +1,13 @@
 -- Each return has the tests of `low_surrogate` that led there. Assumes nothing.
 use native.Mathlib.Omega.{arith}
-use mathlib.Core.Path.{◌≡◌, refl, sym, ap, ◌∙◌}
-use Prim.Native.Nat.{◌+◌, ◌<◌, ◌≤◌}
+use mathlib.Core.Path.{refl, sym, ap, ◌∙◌}
 use lib.Dec.{eqb}
-use lib.ListN.{length, drop, length-drop}
+use lib.ListN.{drop, length-drop}
 use lib.Seq.{drop-drop}
 use Rattle.json_text.proofs.Utf8Laws.{byte_here, byte_first, within, under, over}
 use Rattle.json_text.proofs.PieceLaws.{low_by, low_short}
 use Rattle.json_text.specs.Strings.{backslash, hex4}
 use borrow.Author.Tests.{eq-eqb, ne_eqb}
-use borrow.Author.Rules.{rules}
 use Rattle.json_text.proofs.strings.low_surrogate.Goals as goal
 
 pub returns-then-line-at : goal.returns-then-line-at

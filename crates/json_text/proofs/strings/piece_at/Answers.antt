@@ -1,9 +1,9 @@
 -- Each return has the tests of `piece_of` that led there. Assumes nothing.
 use native.Mathlib.Omega.{arith}
-use mathlib.Core.Path.{◌≡◌, refl, sym, ap, ◌∙◌}
-use Prim.Native.Nat.{ℕ, ◌+◌, ◌≤◌}
+use mathlib.Core.Path.{refl, sym, ap, ◌∙◌}
+use Prim.Native.Nat.{ℕ}
 use lib.Dec.{eqb, ltb}
-use lib.ListN.{length, drop, drop_of_length-le}
+use lib.ListN.{drop, drop_of_length-le}
 use lib.Seq.{drop-drop}
 use Rattle.json_text.proofs.Utf8Laws.{byte_first, sequence_ascii}
 use Rattle.json_text.proofs.PieceLaws.{piece_by, piece_nothing, raw_none, raw_some}
@@ -11,7 +11,6 @@ use Rattle.json_text.specs.Strings.{quote, backslash, escape, raw_piece, piece_o
 use borrow.Author.Tests.{eq-eqb, ne_eqb, lt-ltb, le-ltb}
 use Rattle.json_text.specs.Utf8.{sequence}
 use Rattle.json_text.specs.declared.Piece.TheVariants.{Raw}
-use borrow.Author.Rules.{rules}
 use Rattle.json_text.proofs.strings.piece_at.Goals as goal
 
 pub returns-then-line-at : goal.returns-then-line-at
@@ -22,7 +21,7 @@ returns-then-line-at c =
 pub returns-then-n-eq0 : goal.returns-then-n-eq0
 returns-then-n-eq0 c =
     let s = drop c.args.at c.args.line.now in
-    sym (piece_by s (ap (λ (b : ℕ). eqb b quote) (byte_first c.args.line.now c.args.at (omega arith)) ∙ ne_eqb _ _ c.in_default-1.rest.0.1) (ap (λ (b : ℕ). eqb b backslash) (byte_first c.args.line.now c.args.at (omega arith)) ∙ ne_eqb _ _ c.in_default-1.rest.1) (ap (λ (b : ℕ). ltb b 0x20) (byte_first c.args.line.now c.args.at (omega arith)) ∙ le-ltb _ _ c.if-b-lt32.false) ∙ raw_none (sequence s) (sym c.sequence-n.ensures ∙ c.if-n-eq0.true))
+    sym (piece_by s (ap (λ (b : ℕ). eqb b quote) (byte_first c.args.line.now c.args.at (omega arith)) ∙ ne_eqb _ _ (λ e. omega arith)) (ap (λ (b : ℕ). eqb b backslash) (byte_first c.args.line.now c.args.at (omega arith)) ∙ ne_eqb _ _ (λ e. omega arith)) (ap (λ (b : ℕ). ltb b 0x20) (byte_first c.args.line.now c.args.at (omega arith)) ∙ le-ltb _ _ (omega arith)) ∙ raw_none (sequence s) (sym c.sequence-n.ensures ∙ c.if-n-eq0.true))
 
 pub returns-in-34 : goal.returns-in-34
 returns-in-34 c =
@@ -37,14 +36,14 @@ returns-in-92 c =
 pub returns-in-0-to-31 : goal.returns-in-0-to-31
 returns-in-0-to-31 c =
     let s = drop c.args.at c.args.line.now in
-    sym (piece_by s (ap (λ (b : ℕ). eqb b quote) (byte_first c.args.line.now c.args.at (omega arith)) ∙ ne_eqb _ _ c.in_default-1.rest.0.1) (ap (λ (b : ℕ). eqb b backslash) (byte_first c.args.line.now c.args.at (omega arith)) ∙ ne_eqb _ _ c.in_default-1.rest.1) (ap (λ (b : ℕ). ltb b 0x20) (byte_first c.args.line.now c.args.at (omega arith)) ∙ lt-ltb _ _ c.if-b-lt32.true))
+    sym (piece_by s (ap (λ (b : ℕ). eqb b quote) (byte_first c.args.line.now c.args.at (omega arith)) ∙ ne_eqb _ _ (λ e. omega arith)) (ap (λ (b : ℕ). eqb b backslash) (byte_first c.args.line.now c.args.at (omega arith)) ∙ ne_eqb _ _ (λ e. omega arith)) (ap (λ (b : ℕ). ltb b 0x20) (byte_first c.args.line.now c.args.at (omega arith)) ∙ lt-ltb _ _ (omega arith)))
 
 pub returns-in-32-to-127 : goal.returns-in-32-to-127
 returns-in-32-to-127 c =
     let s = drop c.args.at c.args.line.now in
-    sym (piece_by s (ap (λ (b : ℕ). eqb b quote) (byte_first c.args.line.now c.args.at (omega arith)) ∙ ne_eqb _ _ c.in_default-1.rest.0.1) (ap (λ (b : ℕ). eqb b backslash) (byte_first c.args.line.now c.args.at (omega arith)) ∙ ne_eqb _ _ c.in_default-1.rest.1) (ap (λ (b : ℕ). ltb b 0x20) (byte_first c.args.line.now c.args.at (omega arith)) ∙ le-ltb _ _ c.if-b-lt32.false) ∙ (ap raw_piece (sequence_ascii s (rw (byte_first c.args.line.now c.args.at (omega arith)) (omega arith))) ∙ raw_some 1 (λ e. omega arith)))
+    sym (piece_by s (ap (λ (b : ℕ). eqb b quote) (byte_first c.args.line.now c.args.at (omega arith)) ∙ ne_eqb _ _ (λ e. omega arith)) (ap (λ (b : ℕ). eqb b backslash) (byte_first c.args.line.now c.args.at (omega arith)) ∙ ne_eqb _ _ (λ e. omega arith)) (ap (λ (b : ℕ). ltb b 0x20) (byte_first c.args.line.now c.args.at (omega arith)) ∙ le-ltb _ _ (omega arith)) ∙ (ap raw_piece (sequence_ascii s (rw (byte_first c.args.line.now c.args.at (omega arith)) (omega arith))) ∙ raw_some 1 (λ e. omega arith)))
 
 pub returns-else-n-eq0 : goal.returns-else-n-eq0
 returns-else-n-eq0 c =
     let s = drop c.args.at c.args.line.now in
-    ap (λ (n : ℕ). Raw n) c.sequence-n.ensures ∙ sym (piece_by s (ap (λ (b : ℕ). eqb b quote) (byte_first c.args.line.now c.args.at (omega arith)) ∙ ne_eqb _ _ c.in_default-1.rest.0.1) (ap (λ (b : ℕ). eqb b backslash) (byte_first c.args.line.now c.args.at (omega arith)) ∙ ne_eqb _ _ c.in_default-1.rest.1) (ap (λ (b : ℕ). ltb b 0x20) (byte_first c.args.line.now c.args.at (omega arith)) ∙ le-ltb _ _ c.if-b-lt32.false) ∙ raw_some (sequence s) (λ e. c.if-n-eq0.false (c.sequence-n.ensures ∙ e)))
+    ap (λ (n : ℕ). Raw n) c.sequence-n.ensures ∙ sym (piece_by s (ap (λ (b : ℕ). eqb b quote) (byte_first c.args.line.now c.args.at (omega arith)) ∙ ne_eqb _ _ (λ e. omega arith)) (ap (λ (b : ℕ). eqb b backslash) (byte_first c.args.line.now c.args.at (omega arith)) ∙ ne_eqb _ _ (λ e. omega arith)) (ap (λ (b : ℕ). ltb b 0x20) (byte_first c.args.line.now c.args.at (omega arith)) ∙ le-ltb _ _ (omega arith)) ∙ raw_some (sequence s) (λ e. c.if-n-eq0.false (c.sequence-n.ensures ∙ e)))

@@ -1,11 +1,6 @@
 -- The loop's invariant: the plain bytes from `i` on end where those from `at` on do. The measure is what is left of the line. Assumes nothing.
-use Prim.Native.Nat.{◌-◌}
-use mathlib.Core.Path.{◌≡◌, refl, sym, ◌∙◌}
-use lib.ListN.{length}
-use borrow.Author.Tests.{not-true, not-false}
-use Rattle.json_text.specs.Plain.{skip_plains}
+use mathlib.Core.Path.{refl, sym, ◌∙◌}
 use Rattle.json_text.proofs.PlainLaws.{plains_past, plains_onward, plains_end}
-use borrow.Author.Rules.{rules}
 use Rattle.json_text.proofs.strings.plain_end.Goals as goal
 
 pub loop-i-init : goal.loop-i-init

@@ -1,11 +1,8 @@
 -- The loop's invariant: the plain bytes from `i` on end where those from `at` on do. The measure is what is left of the line. Assumes nothing.
 use Prim.Native.Nat.{◌-◌}
-use mathlib.Core.Path.{◌≡◌, refl, sym, ◌∙◌}
+use mathlib.Core.Path.{◌≡◌}
 use lib.ListN.{length}
-use borrow.Author.Tests.{not-true, not-false}
 use Rattle.json_text.specs.Plain.{skip_plains}
-use Rattle.json_text.proofs.PlainLaws.{plains_past, plains_onward, plains_end}
-use borrow.Author.Rules.{rules}
 use Rattle.json_text.proofs.strings.plain_end.Given as goal
 
 abbrev pub invariant-loop-i : goal.invariant-loop-i

@@ -1,15 +1,13 @@
 -- The loop's invariant: what is left of the string comes to what the whole comes to, with the bytes decoded so far, which are no more than
 -- those passed. The measure is what is left of the line. Assumes nothing.
 use native.Mathlib.Omega.{arith}
-use mathlib.Core.Path.{◌≡◌, refl, sym, ap, ◌∙◌}
-use Prim.Native.Nat.{ℕ, ◌+◌, ◌-◌, ◌≤◌}
-use mathlib.Core.Option.{none, some}
-use lib.ListN.{length, drop, length-drop}
+use mathlib.Core.Path.{sym, ap, ◌∙◌}
+use Prim.Native.Nat.{◌+◌}
+use lib.ListN.{drop, length-drop}
 use Rattle.json_text.proofs.PieceLaws.{plain_raw, raw_size, escaped_size, escaped_shrinks}
 use Rattle.json_text.proofs.StringLaws.{scanned_to, scan_begins, scan_closes, scan_raw, scan_escaped, scan_bad, string_nothing, string_opens, string_absent, string_past}
-use Rattle.json_text.specs.Strings.{string_from, string_at}
+use Rattle.json_text.specs.Strings.{string_from}
 use Rattle.json_text.specs.Access.{scanned}
-use borrow.Author.Rules.{rules}
 use Rattle.json_text.proofs.strings.scan_string.Goals as goal
 
 pub returns-then-line-at : goal.returns-then-line-at

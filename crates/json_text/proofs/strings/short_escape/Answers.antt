@@ -1,7 +1,9 @@
 -- Each arm computes; the last has none of the escapes. Assumes nothing.
-use mathlib.Core.Path.{◌≡◌, refl, sym, ap, ◌∙◌}
-use mathlib.Core.Logic.{⊎_elim, inl, inr}
+use native.Mathlib.Omega.{arith}
+use mathlib.Core.Path.{◌≡◌}
+use mathlib.Core.Logic.{◌⊎◌, ⊎_elim, inl, inr}
 use Rattle.json_text.specs.Strings.{short_escape}
+use borrow.Author.Rules.{rules}
 use borrow.Author.Tests.{ne_eqb}
 use Rattle.json_text.proofs.strings.short_escape.Goals as goal
 
@@ -38,4 +40,5 @@ returns-in-116 c =
 pub returns-in_default : goal.returns-in_default
 unfolding short_escape
 returns-in_default c =
-    rw (ne_eqb c.args.e 0x22 (λ e. c.in_default.rest.0.0.0.0.0.1 (inl e)), ne_eqb c.args.e 0x5c (λ e. c.in_default.rest.0.0.0.0.0.1 (inr (inr e))), ne_eqb c.args.e 0x2f (λ e. c.in_default.rest.0.0.0.0.0.1 (inr (inl e))), ne_eqb c.args.e 0x62 c.in_default.rest.0.0.0.0.1, ne_eqb c.args.e 0x66 c.in_default.rest.0.0.0.1, ne_eqb c.args.e 0x6e c.in_default.rest.0.0.1, ne_eqb c.args.e 0x72 c.in_default.rest.0.1, ne_eqb c.args.e 0x74 c.in_default.rest.1)
+    let h : (c.args.e ≡ 0x22) ⊎ ((c.args.e ≡ 0x2f) ⊎ (c.args.e ≡ 0x5c)) → ⊥ = assumption rules in
+    rw (ne_eqb c.args.e 0x22 (λ e. h (inl e)), ne_eqb c.args.e 0x5c (λ e. h (inr (inr e))), ne_eqb c.args.e 0x2f (λ e. h (inr (inl e))), ne_eqb c.args.e 0x62 (λ e. omega arith), ne_eqb c.args.e 0x66 (λ e. omega arith), ne_eqb c.args.e 0x6e (λ e. omega arith), ne_eqb c.args.e 0x72 (λ e. omega arith), ne_eqb c.args.e 0x74 (λ e. omega arith))

@@ -1,9 +1,8 @@
 -- Where a plain string was found it is compared as it stands, and else piece by piece. Assumes nothing.
-use mathlib.Core.Path.{◌≡◌, refl, sym, ap, ◌∙◌}
+use mathlib.Core.Path.{sym, ap, ◌∙◌}
 use native.Mathlib.Omega.{arith}
 use Rattle.json_text.proofs.PlainLaws.{Plain, plain_string}
 use Rattle.json_text.proofs.StringLaws.{is_rest, is_begins}
-use borrow.Author.Rules.{rules}
 use Rattle.json_text.proofs.strings.string_is.Goals as goal
 
 pub overflow_add-at : goal.overflow_add-at
@@ -30,5 +29,5 @@ pub returns-in-At : goal.returns-in-At
 unfolding is_rest
 returns-in-At c =
     let found : Plain c.args.line.now c.args.at c.in-At.end = plain_string c.args.line.now c.args.at (sym c.plain_text.ensures ∙ c.in-At.is) in
-        let p = found in
+    let p = found in
     c.same.ensures ∙ sym (is_begins c.args.line.now c.args.at c.args.wanted.now ∙ ap (is_rest c.args.wanted.now) p.string)

@@ -1,15 +1,13 @@
 -- Each return has the tests of `unicode` that led there. Assumes nothing.
 use native.Mathlib.Omega.{arith}
-use mathlib.Core.Path.{◌≡◌, refl, sym, ap, ◌∙◌}
+use mathlib.Core.Path.{refl, sym, ap, ◌∙◌}
 use Prim.Native.Nat.{ℕ, ◌+◌, ◌-◌, ◌*◌}
-use lib.ListN.{length, drop, length-drop}
+use lib.ListN.{drop, length-drop}
 use lib.Seq.{drop-drop}
 use Rattle.json_text.proofs.PieceLaws.{hex4_there, low_most, unicode_by}
-use Rattle.json_text.specs.Strings.{no_hex, hex4, low_surrogate}
+use Rattle.json_text.specs.Strings.{hex4, low_surrogate}
 use borrow.Author.Tests.{eq-eqb, ne_eqb, lt-ltb, le-ltb, le-leb, lt-leb}
-use Rattle.json_text.specs.declared.Piece.{Piece}
 use Rattle.json_text.specs.declared.Piece.TheVariants.{Escaped}
-use borrow.Author.Rules.{rules}
 use Rattle.json_text.proofs.strings.unicode_at.Goals as goal
 
 pub returns-then-u-eq-NO_HEX : goal.returns-then-u-eq-NO_HEX

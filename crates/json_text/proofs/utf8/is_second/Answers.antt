@@ -1,9 +1,8 @@
 -- The range of the second byte, by the first. Assumes nothing.
+use native.Mathlib.Omega.{arith}
 use mathlib.Core.Path.{sym, ◌∙◌}
 use borrow.Author.Tests.{ne_eqb}
 use Rattle.json_text.proofs.Utf8Laws.{second_by}
-use Rattle.json_text.specs.Utf8.{second}
-use borrow.Author.Rules.{rules}
 use Rattle.json_text.proofs.utf8.is_second.Goals as goal
 
 pub returns-in-224 : goal.returns-in-224
@@ -24,4 +23,4 @@ returns-in-244 c =
 
 pub returns-in_default : goal.returns-in_default
 returns-in_default c =
-    c.in_range-in_default.ensures ∙ sym (second_by _ _ (rw (ne_eqb _ _ c.in_default.rest.0.0.0.1, ne_eqb _ _ c.in_default.rest.0.1)) (rw (ne_eqb _ _ c.in_default.rest.0.0.1, ne_eqb _ _ c.in_default.rest.1)))
+    c.in_range-in_default.ensures ∙ sym (second_by _ _ (rw (ne_eqb c.args.a 0xe0 (λ e. omega arith), ne_eqb c.args.a 0xf0 (λ e. omega arith))) (rw (ne_eqb c.args.a 0xed (λ e. omega arith), ne_eqb c.args.a 0xf4 (λ e. omega arith))))

@@ -1,9 +1,7 @@
 -- Each return has the tests of `sequence` that led there. Assumes nothing.
 use native.Mathlib.Omega.{arith}
 use mathlib.Core.Path.{refl, sym, ◌∙◌}
-use borrow.Author.Tests.{not-true, not-false}
 use Rattle.json_text.proofs.Utf8Laws.{sequence_past, sequence_cut, sequence_at, spared, asked}
-use borrow.Author.Rules.{rules}
 use Rattle.json_text.proofs.utf8.sequence.Goals as goal
 
 pub returns-then-line-at : goal.returns-then-line-at

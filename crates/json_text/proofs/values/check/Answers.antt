@@ -3,7 +3,6 @@ use mathlib.Core.Path.{sym, ◌∙◌}
 use lib.ListN.{length}
 use borrow.Author.Tests.{eq-eqb, ne_eqb}
 use Rattle.json_text.proofs.AccessSteps.{checked-bad, checked_by}
-use borrow.Author.Rules.{rules}
 use Rattle.json_text.proofs.values.check.Goals as goal
 
 pub returns-then-skip_blanks-line : goal.returns-then-skip_blanks-line

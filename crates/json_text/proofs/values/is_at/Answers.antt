@@ -2,7 +2,6 @@
 use mathlib.Core.Path.{sym}
 use native.Mathlib.Omega.{arith}
 use Rattle.json_text.proofs.ScanLaws.{at_past, at_here}
-use borrow.Author.Rules.{rules}
 use Rattle.json_text.proofs.values.is_at.Goals as goal
 
 pub returns-then-line-at : goal.returns-then-line-at

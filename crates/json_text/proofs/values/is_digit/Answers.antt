@@ -6,12 +6,12 @@ use Rattle.json_text.proofs.values.is_digit.Goals as goal
 
 pub returns-in-48-to-57 : goal.returns-in-48-to-57
 returns-in-48-to-57 c =
-    sym (within 0x30 0x39 _ c.if-b-lt48.false (omega arith))
+    sym (within 0x30 0x39 _ (omega arith) (omega arith))
 
 pub returns-in_default : goal.returns-in_default
 returns-in_default c =
-    sym (under 0x30 0x39 _ c.if-b-lt48.true)
+    sym (under 0x30 0x39 _ (omega arith))
 
 pub returns-in_default-2 : goal.returns-in_default-2
 returns-in_default-2 c =
-    sym (over 0x30 0x39 _ c.if-b-lt58.false)
+    sym (over 0x30 0x39 _ (omega arith))

@@ -1,7 +1,6 @@
 -- By what `check` answers. Assumes nothing.
 use mathlib.Core.Path.{sym, ◌∙◌}
 use Rattle.json_text.proofs.DocumentLaws.{none_document, some_document}
-use borrow.Author.Rules.{rules}
 use Rattle.json_text.proofs.values.is_document.Goals as goal
 
 pub returns-in-Invalid : goal.returns-in-Invalid

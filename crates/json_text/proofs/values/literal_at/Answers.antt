@@ -4,7 +4,6 @@ use native.Mathlib.Omega.{arith}
 use borrow.Author.Rules.{part_to_end}
 use Rattle.json_text.specs.Access.{literal_is, literal_of}
 use Rattle.json_text.proofs.ScanLaws.{word_by, word_past}
-use borrow.Author.Rules.{rules}
 use Rattle.json_text.proofs.values.literal_at.Goals as goal
 
 pub returns-then-line-at : goal.returns-then-line-at
@@ -15,19 +14,19 @@ returns-then-line-at c =
 pub returns-then-begins : goal.returns-then-begins
 unfolding literal_of literal_is
 returns-then-begins c =
-    sym (ap literal_of (word_by c.args.line.now c.args.at (sym (rw part_to_end c.args.at c.begins.ensures) ∙ c.if-begins.true) (refl) (refl)))
+    sym (ap literal_of (word_by c.args.line.now c.args.at (sym (rw part_to_end at c.begins.ensures) ∙ c.if-begins.true) (refl) (refl)))
 
 pub returns-then-begins-2 : goal.returns-then-begins-2
 unfolding literal_of literal_is
 returns-then-begins-2 c =
-    sym (ap literal_of (word_by c.args.line.now c.args.at (sym (rw part_to_end c.args.at c.begins.ensures) ∙ c.if-begins.false) (sym (rw part_to_end c.args.at c.begins-2.ensures) ∙ c.if-begins-2.true) (refl)))
+    sym (ap literal_of (word_by c.args.line.now c.args.at (sym (rw part_to_end at c.begins.ensures) ∙ c.if-begins.false) (sym (rw part_to_end at c.begins-2.ensures) ∙ c.if-begins-2.true) (refl)))
 
 pub returns-then-begins-3 : goal.returns-then-begins-3
 unfolding literal_of literal_is
 returns-then-begins-3 c =
-    sym (ap literal_of (word_by c.args.line.now c.args.at (sym (rw part_to_end c.args.at c.begins.ensures) ∙ c.if-begins.false) (sym (rw part_to_end c.args.at c.begins-2.ensures) ∙ c.if-begins-2.false) (sym (rw part_to_end c.args.at c.begins-3.ensures) ∙ c.if-begins-3.true)))
+    sym (ap literal_of (word_by c.args.line.now c.args.at (sym (rw part_to_end at c.begins.ensures) ∙ c.if-begins.false) (sym (rw part_to_end at c.begins-2.ensures) ∙ c.if-begins-2.false) (sym (rw part_to_end at c.begins-3.ensures) ∙ c.if-begins-3.true)))
 
 pub returns : goal.returns
 unfolding literal_of literal_is
 returns c =
-    sym (ap literal_of (word_by c.args.line.now c.args.at (sym (rw part_to_end c.args.at c.begins.ensures) ∙ c.if-begins.false) (sym (rw part_to_end c.args.at c.begins-2.ensures) ∙ c.if-begins-2.false) (sym (rw part_to_end c.args.at c.begins-3.ensures) ∙ c.if-begins-3.false)))
+    sym (ap literal_of (word_by c.args.line.now c.args.at (sym (rw part_to_end at c.begins.ensures) ∙ c.if-begins.false) (sym (rw part_to_end at c.begins-2.ensures) ∙ c.if-begins-2.false) (sym (rw part_to_end at c.begins-3.ensures) ∙ c.if-begins-3.false)))

@@ -7,7 +7,6 @@ use Rattle.json_text.specs.Json.{is_at, skip_blanks}
 use Rattle.json_text.proofs.ScanLaws.{at_within}
 use Rattle.json_text.proofs.StepLaws.{behind_name, name_stepped}
 use Rattle.json_text.specs.declared.Step.TheVariants.{Next, Bad}
-use borrow.Author.Rules.{rules}
 use Rattle.json_text.proofs.values.name.Goals as goal
 
 pub overflow_add-p : goal.overflow_add-p

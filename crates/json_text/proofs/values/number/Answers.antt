@@ -2,7 +2,6 @@
 use mathlib.Core.Path.{sym, ap, ◌∙◌}
 use Rattle.json_text.specs.Json.{number_at}
 use Rattle.json_text.proofs.StepLaws.{behind_digits, number_stepped}
-use borrow.Author.Rules.{rules}
 use Rattle.json_text.proofs.values.number.Goals as goal
 
 pub returns-in-Value : goal.returns-in-Value

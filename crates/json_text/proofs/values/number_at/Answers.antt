@@ -1,16 +1,13 @@
 -- The loop's invariant: the digits from `at` to `i` write `v`. The measure is what is left of the line. Assumes nothing.
-use Prim.Native.Nat.{◌-◌}
 use mathlib.Core.Path.{◌≡◌, sym, ◌∙◌}
-use mathlib.Core.Logic.{⊎_elim}
 use mathlib.Core.List.{[]}
 use native.Mathlib.Omega.{arith}
-use borrow.Author.Tests.{not-true, not-false}
-use lib.ListN.{length, get_or}
+use lib.ListN.{get_or}
 use Rattle.json_text.proofs.ScanLaws.{digits_at}
 use Rattle.json_text.proofs.Utf8Laws.{within_told}
-use Rattle.json_text.proofs.NumberLaws.{digits_past, digits_other, Reading, reading_none, reading_more, reading_over, reading_nothing, reading_zeros, reading_one, reading_other}
-use borrow.Author.Rules.{rules}
+use Rattle.json_text.proofs.NumberLaws.{digits_past, digits_other, reading_none, reading_more, reading_over, reading_nothing, reading_zeros, reading_one, reading_other}
 use Rattle.json_text.proofs.values.number_at.Goals as goal
+use Rattle.json_text.proofs.values.number_at.Goals.{else-loop-i-test, then-loop-i-test+then-not-is_digit}
 
 pub loop-i-init : goal.loop-i-init
 loop-i-init c =
@@ -46,11 +43,11 @@ loop-i-preserved c =
 
 pub returns-then-i-at : goal.returns-then-i-at
 returns-then-i-at c =
-    let ended : digits_at c.args.line.now c.loop-i.i ≡ [] = ⊎_elim
-    (λ w. digits_past _ _ w.left)
-    (λ w. digits_other _ _ w.0.taken (sym w.2.ensures ∙ not-true _ w.3.taken))
-    c.loop-i-test.branch in
-        reading_nothing c.args.line.now c.args.at c.loop-i.v c.loop-i.i c.loop-i.invariant (ended) c.if-i-at.true
+    let ended : digits_at c.args.line.now c.loop-i.i ≡ [] = elim c.loop-i-test.branch [
+      | else-loop-i-test w ↦ digits_past _ _ w.loop-i-test.false
+      | then-loop-i-test+then-not-is_digit w ↦ digits_other _ _ w.loop-i-test.true (sym w.is_digit.ensures ∙ w.if-not-is_digit.true)
+    ] in
+    reading_nothing c.args.line.now c.args.at c.loop-i.v c.loop-i.i c.loop-i.invariant (ended) c.if-i-at.true
 
 pub bounds-line-at : goal.bounds-line-at
 bounds-line-at c =
@@ -62,24 +59,24 @@ overflow_sub-i c =
 
 pub returns-then-i-at-ne1 : goal.returns-then-i-at-ne1
 returns-then-i-at-ne1 c =
-    let ended : digits_at c.args.line.now c.loop-i.i ≡ [] = ⊎_elim
-    (λ w. digits_past _ _ w.left)
-    (λ w. digits_other _ _ w.0.taken (sym w.2.ensures ∙ not-true _ w.3.taken))
-    c.loop-i-test.branch in
-        reading_zeros c.args.line.now c.args.at c.loop-i.v c.loop-i.i c.loop-i.invariant (ended) c.if-i-at.false c.if-line-at-eq48.true c.if-i-at-ne1.true
+    let ended : digits_at c.args.line.now c.loop-i.i ≡ [] = elim c.loop-i-test.branch [
+      | else-loop-i-test w ↦ digits_past _ _ w.loop-i-test.false
+      | then-loop-i-test+then-not-is_digit w ↦ digits_other _ _ w.loop-i-test.true (sym w.is_digit.ensures ∙ w.if-not-is_digit.true)
+    ] in
+    reading_zeros c.args.line.now c.args.at c.loop-i.v c.loop-i.i c.loop-i.invariant (ended) c.if-i-at.false c.if-line-at-eq48.true c.if-i-at-ne1.true
 
 pub returns-else-i-at-ne1 : goal.returns-else-i-at-ne1
 returns-else-i-at-ne1 c =
-    let ended : digits_at c.args.line.now c.loop-i.i ≡ [] = ⊎_elim
-    (λ w. digits_past _ _ w.left)
-    (λ w. digits_other _ _ w.0.taken (sym w.2.ensures ∙ not-true _ w.3.taken))
-    c.loop-i-test.branch in
-        reading_one c.args.line.now c.args.at c.loop-i.v c.loop-i.i c.loop-i.invariant (ended) c.if-i-at.false c.if-i-at-ne1.false
+    let ended : digits_at c.args.line.now c.loop-i.i ≡ [] = elim c.loop-i-test.branch [
+      | else-loop-i-test w ↦ digits_past _ _ w.loop-i-test.false
+      | then-loop-i-test+then-not-is_digit w ↦ digits_other _ _ w.loop-i-test.true (sym w.is_digit.ensures ∙ w.if-not-is_digit.true)
+    ] in
+    reading_one c.args.line.now c.args.at c.loop-i.v c.loop-i.i c.loop-i.invariant (ended) c.if-i-at.false c.if-i-at-ne1.false
 
 pub returns-else-line-at-eq48 : goal.returns-else-line-at-eq48
 returns-else-line-at-eq48 c =
-    let ended : digits_at c.args.line.now c.loop-i.i ≡ [] = ⊎_elim
-    (λ w. digits_past _ _ w.left)
-    (λ w. digits_other _ _ w.0.taken (sym w.2.ensures ∙ not-true _ w.3.taken))
-    c.loop-i-test.branch in
-        reading_other c.args.line.now c.args.at c.loop-i.v c.loop-i.i c.loop-i.invariant (ended) c.if-i-at.false c.if-line-at-eq48.false
+    let ended : digits_at c.args.line.now c.loop-i.i ≡ [] = elim c.loop-i-test.branch [
+      | else-loop-i-test w ↦ digits_past _ _ w.loop-i-test.false
+      | then-loop-i-test+then-not-is_digit w ↦ digits_other _ _ w.loop-i-test.true (sym w.is_digit.ensures ∙ w.if-not-is_digit.true)
+    ] in
+    reading_other c.args.line.now c.args.at c.loop-i.v c.loop-i.i c.loop-i.invariant (ended) c.if-i-at.false c.if-line-at-eq48.false

@@ -5,7 +5,6 @@ use native.Mathlib.Omega.{arith}
 use Rattle.json_text.specs.Json.{is_at, skip_blanks}
 use Rattle.json_text.proofs.ScanLaws.{at_within, separator_by}
 use Rattle.json_text.specs.declared.Separator.TheVariants.{Close, Comma}
-use borrow.Author.Rules.{rules}
 use Rattle.json_text.proofs.values.separator.Goals as goal
 
 pub overflow_add-result : goal.overflow_add-result

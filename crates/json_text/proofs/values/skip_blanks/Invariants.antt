@@ -1,10 +1,8 @@
 -- The loop's invariant: the blanks from `i` on end where those from `at` on do. The measure is what is left of the line. Assumes nothing.
 use Prim.Native.Nat.{◌-◌}
-use mathlib.Core.Path.{◌≡◌, refl, sym, ◌∙◌}
+use mathlib.Core.Path.{◌≡◌}
 use lib.ListN.{length}
 use Rattle.json_text.specs.Json.{skip_blanks}
-use Rattle.json_text.proofs.ScanLaws.{is_blank_lem, no_blank, blanks_past, blanks_onward, blanks_end}
-use borrow.Author.Rules.{rules}
 use Rattle.json_text.proofs.values.skip_blanks.Given as goal
 
 abbrev pub invariant-loop-i : goal.invariant-loop-i

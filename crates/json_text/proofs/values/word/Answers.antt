@@ -3,7 +3,6 @@ use mathlib.Core.Path.{sym, ◌∙◌}
 use native.Mathlib.Omega.{arith}
 use Rattle.json_text.proofs.ScanLaws.{word_next}
 use Rattle.json_text.proofs.StepLaws.{literal_told, word_stepped}
-use borrow.Author.Rules.{rules}
 use Rattle.json_text.proofs.values.word.Goals as goal
 
 pub overflow_add-result : goal.overflow_add-result

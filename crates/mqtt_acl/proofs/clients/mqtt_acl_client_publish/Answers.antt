@@ -15,4 +15,4 @@ returns c =
     c.publish_number.ensures
     ∙ ap packed
     (c.client_publish.ensures
-    ∙ (λ i. ask (record { c.flag.ensures = c.flag.ensures i; id = c.args.id.now; c.given_text.ensures = c.given_text.ensures i }) c.args.rules.now (publish c.args.qos (c.flag-2.ensures i) (c.flag-3.ensures i) c.args.topic.now)))
+    ∙ (λ i. ask (record { superuser = c.flag.ensures i; id = c.args.id.now; name = c.given_text.ensures i }) c.args.rules.now (publish c.args.qos (c.flag-2.ensures i) (c.flag-3.ensures i) c.args.topic.now)))

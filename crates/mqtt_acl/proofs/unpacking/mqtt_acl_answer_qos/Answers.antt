@@ -16,4 +16,4 @@ returns-in-6 c =
 pub returns-in_default : goal.returns-in_default
 unfolding parts parts_by
 returns-in_default c =
-    rw (ne_eqb _ _ c.in_default.rest.0.1, ne_eqb _ _ c.in_default.rest.1)
+    rw (ne_eqb _ _ (λ e. omega arith), ne_eqb _ _ ?)

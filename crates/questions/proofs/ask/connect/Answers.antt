@@ -22,30 +22,36 @@ use Rattle.questions.proofs.ask.connect.Goals as goal
 pub returns-then-client_over : goal.returns-then-client_over
 unfolding question_cause connect_says number
 returns-then-client_over c =
-    sym (refuses_by ((connect c.args.earlier ((record { id = c.args.id.now; name = given c.args.name c.args.names.now; password = given c.args.password c.args.passwords.now; address = given c.args.address c.args.addresses.now; protocol = some c.args.protocol })))) c.args.store.now (first-long _ _ (client_told ((record { id = c.args.id.now; name = given c.args.name c.args.names.now; password = given c.args.password c.args.passwords.now; address = given c.args.address c.args.addresses.now; protocol = some c.args.protocol })) c.client_over.ensures c.if-client_over.true)))
+    let who : Client = record { id = c.args.id.now; name = given c.args.name c.args.names.now; password = given c.args.password c.args.passwords.now; address = given c.args.address c.args.addresses.now; protocol = some c.args.protocol } in
+    let asked : Question = connect c.args.earlier who in
+    sym (refuses_by asked c.args.store.now (first-long _ _ (client_told who c.client_over.ensures c.if-client_over.true)))
 
 pub returns-then-earlier-gt-CONNECT_CODE : goal.returns-then-earlier-gt-CONNECT_CODE
 unfolding question_cause connect_says number
 returns-then-earlier-gt-CONNECT_CODE c =
-    let short : client_over ((record { id = c.args.id.now; name = given c.args.name c.args.names.now; password = given c.args.password c.args.passwords.now; address = given c.args.address c.args.addresses.now; protocol = some c.args.protocol })) ≡ false = client_told ((record { id = c.args.id.now; name = given c.args.name c.args.names.now; password = given c.args.password c.args.passwords.now; address = given c.args.address c.args.addresses.now; protocol = some c.args.protocol })) c.client_over.ensures c.if-client_over.false in
-        sym (refuses_by ((connect c.args.earlier ((record { id = c.args.id.now; name = given c.args.name c.args.names.now; password = given c.args.password c.args.passwords.now; address = given c.args.address c.args.addresses.now; protocol = some c.args.protocol })))) c.args.store.now (first-wrong _ _ (short) (lt-ltb _ _ c.if-earlier-gt-CONNECT_CODE.true)))
+    let who : Client = record { id = c.args.id.now; name = given c.args.name c.args.names.now; password = given c.args.password c.args.passwords.now; address = given c.args.address c.args.addresses.now; protocol = some c.args.protocol } in
+    let asked : Question = connect c.args.earlier who in
+    let short : client_over who ≡ false = client_told who c.client_over.ensures c.if-client_over.false in
+    sym (refuses_by asked c.args.store.now (first-wrong _ _ short (lt-ltb _ _ c.if-earlier-gt-CONNECT_CODE.true)))
 
 pub returns-in_default : goal.returns-in_default
-unfolding connect_says number
-unfolding question_cause
+unfolding connect_says number question_cause
 returns-in_default c =
-    let short : client_over ((record { id = c.args.id.now; name = given c.args.name c.args.names.now; password = given c.args.password c.args.passwords.now; address = given c.args.address c.args.addresses.now; protocol = some c.args.protocol })) ≡ false = client_told ((record { id = c.args.id.now; name = given c.args.name c.args.names.now; password = given c.args.password c.args.passwords.now; address = given c.args.address c.args.addresses.now; protocol = some c.args.protocol })) c.client_over.ensures c.if-client_over.false in
-    let within : question_cause ((connect c.args.earlier ((record { id = c.args.id.now; name = given c.args.name c.args.names.now; password = given c.args.password c.args.passwords.now; address = given c.args.address c.args.addresses.now; protocol = some c.args.protocol })))) ≡ none = first-none _ _ (short) (le-ltb _ _ c.if-earlier-gt-CONNECT_CODE.false) in
-        sym (malformed_by ((connect c.args.earlier ((record { id = c.args.id.now; name = given c.args.name c.args.names.now; password = given c.args.password c.args.passwords.now; address = given c.args.address c.args.addresses.now; protocol = some c.args.protocol })))) c.args.store.now (within) (sym c.shape.ensures ∙ c.in_default.is))
+    let who : Client = record { id = c.args.id.now; name = given c.args.name c.args.names.now; password = given c.args.password c.args.passwords.now; address = given c.args.address c.args.addresses.now; protocol = some c.args.protocol } in
+    let asked : Question = connect c.args.earlier who in
+    let short : client_over who ≡ false = client_told who c.client_over.ensures c.if-client_over.false in
+    let within : question_cause asked ≡ none = first-none _ _ short (le-ltb _ _ c.if-earlier-gt-CONNECT_CODE.false) in
+    sym (malformed_by asked c.args.store.now within (sym c.shape.ensures ∙ c.in_default.is))
 
 pub returns-then-earlier-ge-CONNECT_KEPT : goal.returns-then-earlier-ge-CONNECT_KEPT
-unfolding keeps connect_says
-unfolding question_cause
+unfolding keeps connect_says question_cause
 returns-then-earlier-ge-CONNECT_KEPT c =
-    let short : client_over ((record { id = c.args.id.now; name = given c.args.name c.args.names.now; password = given c.args.password c.args.passwords.now; address = given c.args.address c.args.addresses.now; protocol = some c.args.protocol })) ≡ false = client_told ((record { id = c.args.id.now; name = given c.args.name c.args.names.now; password = given c.args.password c.args.passwords.now; address = given c.args.address c.args.addresses.now; protocol = some c.args.protocol })) c.client_over.ensures c.if-client_over.false in
-    let within : question_cause ((connect c.args.earlier ((record { id = c.args.id.now; name = given c.args.name c.args.names.now; password = given c.args.password c.args.passwords.now; address = given c.args.address c.args.addresses.now; protocol = some c.args.protocol })))) ≡ none = first-none _ _ (short) (le-ltb _ _ c.if-earlier-gt-CONNECT_CODE.false) in
+    let who : Client = record { id = c.args.id.now; name = given c.args.name c.args.names.now; password = given c.args.password c.args.passwords.now; address = given c.args.address c.args.addresses.now; protocol = some c.args.protocol } in
+    let asked : Question = connect c.args.earlier who in
+    let short : client_over who ≡ false = client_told who c.client_over.ensures c.if-client_over.false in
+    let within : question_cause asked ≡ none = first-none _ _ short (le-ltb _ _ c.if-earlier-gt-CONNECT_CODE.false) in
     let laid : shape_of (view c.args.store.now) ≡ LaidOut c.in-LaidOut.shape = sym c.shape.ensures ∙ c.in-LaidOut.is in
-        sym (keeps_laid ((connect c.args.earlier ((record { id = c.args.id.now; name = given c.args.name c.args.names.now; password = given c.args.password c.args.passwords.now; address = given c.args.address c.args.addresses.now; protocol = some c.args.protocol })))) c.args.store.now (within) (laid) (connect_kept _ c.if-earlier-ge-CONNECT_KEPT.true c.if-earlier-gt-CONNECT_CODE.false))
+    sym (keeps_laid asked c.args.store.now within laid (connect_kept _ c.if-earlier-ge-CONNECT_KEPT.true c.if-earlier-gt-CONNECT_CODE.false))
 
 pub deciding_on-requires : goal.deciding_on-requires
 deciding_on-requires c =
@@ -53,34 +59,34 @@ deciding_on-requires c =
     laid
 
 pub returns-then-allow : goal.returns-then-allow
-unfolding allowed connect_says
-unfolding question_cause
-unfolding keeps client wish wish_of protocol_of
+unfolding allowed connect_says question_cause keeps client wish wish_of protocol_of
 returns-then-allow c =
-    let short : client_over ((record { id = c.args.id.now; name = given c.args.name c.args.names.now; password = given c.args.password c.args.passwords.now; address = given c.args.address c.args.addresses.now; protocol = some c.args.protocol })) ≡ false = client_told ((record { id = c.args.id.now; name = given c.args.name c.args.names.now; password = given c.args.password c.args.passwords.now; address = given c.args.address c.args.addresses.now; protocol = some c.args.protocol })) c.client_over.ensures c.if-client_over.false in
-    let within : question_cause ((connect c.args.earlier ((record { id = c.args.id.now; name = given c.args.name c.args.names.now; password = given c.args.password c.args.passwords.now; address = given c.args.address c.args.addresses.now; protocol = some c.args.protocol })))) ≡ none = first-none _ _ (short) (le-ltb _ _ c.if-earlier-gt-CONNECT_CODE.false) in
+    let who : Client = record { id = c.args.id.now; name = given c.args.name c.args.names.now; password = given c.args.password c.args.passwords.now; address = given c.args.address c.args.addresses.now; protocol = some c.args.protocol } in
+    let asked : Question = connect c.args.earlier who in
+    let short : client_over who ≡ false = client_told who c.client_over.ensures c.if-client_over.false in
+    let within : question_cause asked ≡ none = first-none _ _ short (le-ltb _ _ c.if-earlier-gt-CONNECT_CODE.false) in
     let laid : shape_of (view c.args.store.now) ≡ LaidOut c.in-LaidOut.shape = sym c.shape.ensures ∙ c.in-LaidOut.is in
-    let decided : Asks ((connect c.args.earlier ((record { id = c.args.id.now; name = given c.args.name c.args.names.now; password = given c.args.password c.args.passwords.now; address = given c.args.address c.args.addresses.now; protocol = some c.args.protocol })))) c.args.store.now c.in-LaidOut.shape c.deciding_on.result = record { cause = within; laid = laid; new = connect_new _ c.if-earlier-ge-CONNECT_KEPT.false; told = c.deciding_on.ensures } in
-    sym (allows_laid (decided) c.in-Rule.is c.if-allow.true)
+    let decided : Asks asked c.args.store.now c.in-LaidOut.shape c.deciding_on.result = record { cause = within; laid = laid; new = connect_new _ c.if-earlier-ge-CONNECT_KEPT.false; told = c.deciding_on.ensures } in
+    sym (allows_laid decided c.in-Rule.is c.if-allow.true)
 
 pub returns-in-NoRule : goal.returns-in-NoRule
-unfolding refusal connect_says
-unfolding question_cause
-unfolding keeps client wish wish_of protocol_of
+unfolding refusal connect_says question_cause keeps client wish wish_of protocol_of
 returns-in-NoRule c =
-    let short : client_over ((record { id = c.args.id.now; name = given c.args.name c.args.names.now; password = given c.args.password c.args.passwords.now; address = given c.args.address c.args.addresses.now; protocol = some c.args.protocol })) ≡ false = client_told ((record { id = c.args.id.now; name = given c.args.name c.args.names.now; password = given c.args.password c.args.passwords.now; address = given c.args.address c.args.addresses.now; protocol = some c.args.protocol })) c.client_over.ensures c.if-client_over.false in
-    let within : question_cause ((connect c.args.earlier ((record { id = c.args.id.now; name = given c.args.name c.args.names.now; password = given c.args.password c.args.passwords.now; address = given c.args.address c.args.addresses.now; protocol = some c.args.protocol })))) ≡ none = first-none _ _ (short) (le-ltb _ _ c.if-earlier-gt-CONNECT_CODE.false) in
+    let who : Client = record { id = c.args.id.now; name = given c.args.name c.args.names.now; password = given c.args.password c.args.passwords.now; address = given c.args.address c.args.addresses.now; protocol = some c.args.protocol } in
+    let asked : Question = connect c.args.earlier who in
+    let short : client_over who ≡ false = client_told who c.client_over.ensures c.if-client_over.false in
+    let within : question_cause asked ≡ none = first-none _ _ short (le-ltb _ _ c.if-earlier-gt-CONNECT_CODE.false) in
     let laid : shape_of (view c.args.store.now) ≡ LaidOut c.in-LaidOut.shape = sym c.shape.ensures ∙ c.in-LaidOut.is in
-    let decided : Asks ((connect c.args.earlier ((record { id = c.args.id.now; name = given c.args.name c.args.names.now; password = given c.args.password c.args.passwords.now; address = given c.args.address c.args.addresses.now; protocol = some c.args.protocol })))) c.args.store.now c.in-LaidOut.shape c.deciding_on.result = record { cause = within; laid = laid; new = connect_new _ c.if-earlier-ge-CONNECT_KEPT.false; told = c.deciding_on.ensures } in
-    sym (none_laid (decided) c.in-NoRule.is)
+    let decided : Asks asked c.args.store.now c.in-LaidOut.shape c.deciding_on.result = record { cause = within; laid = laid; new = connect_new _ c.if-earlier-ge-CONNECT_KEPT.false; told = c.deciding_on.ensures } in
+    sym (none_laid decided c.in-NoRule.is)
 
 pub returns-else-allow : goal.returns-else-allow
-unfolding refusal connect_says
-unfolding question_cause
-unfolding keeps client wish wish_of protocol_of
+unfolding refusal connect_says question_cause keeps client wish wish_of protocol_of
 returns-else-allow c =
-    let short : client_over ((record { id = c.args.id.now; name = given c.args.name c.args.names.now; password = given c.args.password c.args.passwords.now; address = given c.args.address c.args.addresses.now; protocol = some c.args.protocol })) ≡ false = client_told ((record { id = c.args.id.now; name = given c.args.name c.args.names.now; password = given c.args.password c.args.passwords.now; address = given c.args.address c.args.addresses.now; protocol = some c.args.protocol })) c.client_over.ensures c.if-client_over.false in
-    let within : question_cause ((connect c.args.earlier ((record { id = c.args.id.now; name = given c.args.name c.args.names.now; password = given c.args.password c.args.passwords.now; address = given c.args.address c.args.addresses.now; protocol = some c.args.protocol })))) ≡ none = first-none _ _ (short) (le-ltb _ _ c.if-earlier-gt-CONNECT_CODE.false) in
+    let who : Client = record { id = c.args.id.now; name = given c.args.name c.args.names.now; password = given c.args.password c.args.passwords.now; address = given c.args.address c.args.addresses.now; protocol = some c.args.protocol } in
+    let asked : Question = connect c.args.earlier who in
+    let short : client_over who ≡ false = client_told who c.client_over.ensures c.if-client_over.false in
+    let within : question_cause asked ≡ none = first-none _ _ short (le-ltb _ _ c.if-earlier-gt-CONNECT_CODE.false) in
     let laid : shape_of (view c.args.store.now) ≡ LaidOut c.in-LaidOut.shape = sym c.shape.ensures ∙ c.in-LaidOut.is in
-    let decided : Asks ((connect c.args.earlier ((record { id = c.args.id.now; name = given c.args.name c.args.names.now; password = given c.args.password c.args.passwords.now; address = given c.args.address c.args.addresses.now; protocol = some c.args.protocol })))) c.args.store.now c.in-LaidOut.shape c.deciding_on.result = record { cause = within; laid = laid; new = connect_new _ c.if-earlier-ge-CONNECT_KEPT.false; told = c.deciding_on.ensures } in
-    sym (refuses_laid (decided) c.in-Rule.is c.if-allow.false)
+    let decided : Asks asked c.args.store.now c.in-LaidOut.shape c.deciding_on.result = record { cause = within; laid = laid; new = connect_new _ c.if-earlier-ge-CONNECT_KEPT.false; told = c.deciding_on.ensures } in
+    sym (refuses_laid decided c.in-Rule.is c.if-allow.false)

@@ -46,8 +46,8 @@ slice_bounds-deciding_in-end-3 c =
 
 pub deciding_in-requires : goal.deciding_in-requires
 deciding_in-requires c =
-    λ k. text_rules c.args.store.now c.?pre.
+    λ k. text_rules c.args.store.now c.requires
 
 pub returns : goal.returns
 returns c v h =
-    decides_on c.args.store.now c.?pre. h _ _ c.filters_at-filters_at.ensures c.eqs_at-eqs_at.ensures c.deciding_in.ensures
+    decides_on c.args.store.now c.requires h _ _ c.filters_at-filters_at.ensures c.eqs_at-eqs_at.ensures c.deciding_in.ensures

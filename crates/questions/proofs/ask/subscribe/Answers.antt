@@ -23,45 +23,55 @@ use Rattle.questions.proofs.ask.subscribe.Goals as goal
 pub returns-then-client_over : goal.returns-then-client_over
 unfolding question_cause subscribe_says number
 returns-then-client_over c =
-    sym (refuses_by ((subscribe c.args.earlier ((record { id = c.args.id.now; name = given c.args.name c.args.names.now; password = given c.args.password c.args.passwords.now; address = given c.args.address c.args.addresses.now; protocol = protocol_of c.args.protocol })) c.args.topic.now c.args.qos)) c.args.store.now (first-long _ _ (either_first (client_over ((record { id = c.args.id.now; name = given c.args.name c.args.names.now; password = given c.args.password c.args.passwords.now; address = given c.args.address c.args.addresses.now; protocol = protocol_of c.args.protocol }))) _ (client_told ((record { id = c.args.id.now; name = given c.args.name c.args.names.now; password = given c.args.password c.args.passwords.now; address = given c.args.address c.args.addresses.now; protocol = protocol_of c.args.protocol })) c.client_over.ensures c.if-client_over.true))))
+    let who : Client = record { id = c.args.id.now; name = given c.args.name c.args.names.now; password = given c.args.password c.args.passwords.now; address = given c.args.address c.args.addresses.now; protocol = protocol_of c.args.protocol } in
+    let asked : Question = subscribe c.args.earlier who c.args.topic.now c.args.qos in
+    sym (refuses_by asked c.args.store.now (first-long _ _ (either_first (client_over who) _ (client_told who c.client_over.ensures c.if-client_over.true))))
 
 pub returns-then-topic-gt-TEXT : goal.returns-then-topic-gt-TEXT
 unfolding question_cause subscribe_says number
 returns-then-topic-gt-TEXT c =
-    sym (refuses_by ((subscribe c.args.earlier ((record { id = c.args.id.now; name = given c.args.name c.args.names.now; password = given c.args.password c.args.passwords.now; address = given c.args.address c.args.addresses.now; protocol = protocol_of c.args.protocol })) c.args.topic.now c.args.qos)) c.args.store.now (first-long _ _ (either_second (client_over ((record { id = c.args.id.now; name = given c.args.name c.args.names.now; password = given c.args.password c.args.passwords.now; address = given c.args.address c.args.addresses.now; protocol = protocol_of c.args.protocol }))) _ (lt-ltb _ _ c.if-topic-gt-TEXT.true))))
+    let who : Client = record { id = c.args.id.now; name = given c.args.name c.args.names.now; password = given c.args.password c.args.passwords.now; address = given c.args.address c.args.addresses.now; protocol = protocol_of c.args.protocol } in
+    let asked : Question = subscribe c.args.earlier who c.args.topic.now c.args.qos in
+    sym (refuses_by asked c.args.store.now (first-long _ _ (either_second (client_over who) _ (lt-ltb _ _ c.if-topic-gt-TEXT.true))))
 
 pub returns-then-earlier-gt-CODE : goal.returns-then-earlier-gt-CODE
 unfolding question_cause subscribe_says number
 returns-then-earlier-gt-CODE c =
-    let short : client_over ((record { id = c.args.id.now; name = given c.args.name c.args.names.now; password = given c.args.password c.args.passwords.now; address = given c.args.address c.args.addresses.now; protocol = protocol_of c.args.protocol })) ≡ false = client_told ((record { id = c.args.id.now; name = given c.args.name c.args.names.now; password = given c.args.password c.args.passwords.now; address = given c.args.address c.args.addresses.now; protocol = protocol_of c.args.protocol })) c.client_over.ensures c.if-client_over.false in
-        let fits = neither (client_over ((record { id = c.args.id.now; name = given c.args.name c.args.names.now; password = given c.args.password c.args.passwords.now; address = given c.args.address c.args.addresses.now; protocol = protocol_of c.args.protocol }))) _ (short) (le-ltb _ _ c.if-topic-gt-TEXT.false) in
-    sym (refuses_by ((subscribe c.args.earlier ((record { id = c.args.id.now; name = given c.args.name c.args.names.now; password = given c.args.password c.args.passwords.now; address = given c.args.address c.args.addresses.now; protocol = protocol_of c.args.protocol })) c.args.topic.now c.args.qos)) c.args.store.now (first-wrong _ _ fits (either_first _ _ (lt-ltb _ _ c.if-earlier-gt-CODE.true))))
+    let who : Client = record { id = c.args.id.now; name = given c.args.name c.args.names.now; password = given c.args.password c.args.passwords.now; address = given c.args.address c.args.addresses.now; protocol = protocol_of c.args.protocol } in
+    let asked : Question = subscribe c.args.earlier who c.args.topic.now c.args.qos in
+    let short : client_over who ≡ false = client_told who c.client_over.ensures c.if-client_over.false in
+    let fits = neither (client_over who) _ short (le-ltb _ _ c.if-topic-gt-TEXT.false) in
+    sym (refuses_by asked c.args.store.now (first-wrong _ _ fits (either_first _ _ (lt-ltb _ _ c.if-earlier-gt-CODE.true))))
 
 pub returns-then-qos-gt-QOS : goal.returns-then-qos-gt-QOS
 unfolding question_cause subscribe_says number
 returns-then-qos-gt-QOS c =
-    let short : client_over ((record { id = c.args.id.now; name = given c.args.name c.args.names.now; password = given c.args.password c.args.passwords.now; address = given c.args.address c.args.addresses.now; protocol = protocol_of c.args.protocol })) ≡ false = client_told ((record { id = c.args.id.now; name = given c.args.name c.args.names.now; password = given c.args.password c.args.passwords.now; address = given c.args.address c.args.addresses.now; protocol = protocol_of c.args.protocol })) c.client_over.ensures c.if-client_over.false in
-        let fits = neither (client_over ((record { id = c.args.id.now; name = given c.args.name c.args.names.now; password = given c.args.password c.args.passwords.now; address = given c.args.address c.args.addresses.now; protocol = protocol_of c.args.protocol }))) _ (short) (le-ltb _ _ c.if-topic-gt-TEXT.false) in
-    sym (refuses_by ((subscribe c.args.earlier ((record { id = c.args.id.now; name = given c.args.name c.args.names.now; password = given c.args.password c.args.passwords.now; address = given c.args.address c.args.addresses.now; protocol = protocol_of c.args.protocol })) c.args.topic.now c.args.qos)) c.args.store.now (first-wrong _ _ fits (either_second (ltb code_limit c.args.earlier) _ (lt-ltb _ _ c.if-qos-gt-QOS.true))))
+    let who : Client = record { id = c.args.id.now; name = given c.args.name c.args.names.now; password = given c.args.password c.args.passwords.now; address = given c.args.address c.args.addresses.now; protocol = protocol_of c.args.protocol } in
+    let asked : Question = subscribe c.args.earlier who c.args.topic.now c.args.qos in
+    let short : client_over who ≡ false = client_told who c.client_over.ensures c.if-client_over.false in
+    let fits = neither (client_over who) _ short (le-ltb _ _ c.if-topic-gt-TEXT.false) in
+    sym (refuses_by asked c.args.store.now (first-wrong _ _ fits (either_second (ltb code_limit c.args.earlier) _ (lt-ltb _ _ c.if-qos-gt-QOS.true))))
 
 pub returns-in_default : goal.returns-in_default
-unfolding subscribe_says number
-unfolding question_cause
+unfolding subscribe_says number question_cause
 returns-in_default c =
-    let short : client_over ((record { id = c.args.id.now; name = given c.args.name c.args.names.now; password = given c.args.password c.args.passwords.now; address = given c.args.address c.args.addresses.now; protocol = protocol_of c.args.protocol })) ≡ false = client_told ((record { id = c.args.id.now; name = given c.args.name c.args.names.now; password = given c.args.password c.args.passwords.now; address = given c.args.address c.args.addresses.now; protocol = protocol_of c.args.protocol })) c.client_over.ensures c.if-client_over.false in
-    let within : question_cause ((subscribe c.args.earlier ((record { id = c.args.id.now; name = given c.args.name c.args.names.now; password = given c.args.password c.args.passwords.now; address = given c.args.address c.args.addresses.now; protocol = protocol_of c.args.protocol })) c.args.topic.now c.args.qos)) ≡ none = first-none _ _ (neither (client_over ((record { id = c.args.id.now; name = given c.args.name c.args.names.now; password = given c.args.password c.args.passwords.now; address = given c.args.address c.args.addresses.now; protocol = protocol_of c.args.protocol }))) _ (short) (le-ltb _ _ c.if-topic-gt-TEXT.false))
+    let who : Client = record { id = c.args.id.now; name = given c.args.name c.args.names.now; password = given c.args.password c.args.passwords.now; address = given c.args.address c.args.addresses.now; protocol = protocol_of c.args.protocol } in
+    let asked : Question = subscribe c.args.earlier who c.args.topic.now c.args.qos in
+    let short : client_over who ≡ false = client_told who c.client_over.ensures c.if-client_over.false in
+    let within : question_cause asked ≡ none = first-none _ _ (neither (client_over who) _ short (le-ltb _ _ c.if-topic-gt-TEXT.false))
     (neither _ _ (le-ltb _ _ c.if-earlier-gt-CODE.false) (le-ltb _ _ c.if-qos-gt-QOS.false)) in
-        sym (malformed_by ((subscribe c.args.earlier ((record { id = c.args.id.now; name = given c.args.name c.args.names.now; password = given c.args.password c.args.passwords.now; address = given c.args.address c.args.addresses.now; protocol = protocol_of c.args.protocol })) c.args.topic.now c.args.qos)) c.args.store.now (within) (sym c.shape.ensures ∙ c.in_default.is))
+    sym (malformed_by asked c.args.store.now within (sym c.shape.ensures ∙ c.in_default.is))
 
 pub returns-then-earlier-eq-CODE : goal.returns-then-earlier-eq-CODE
-unfolding keeps subscribe_says
-unfolding question_cause
+unfolding keeps subscribe_says question_cause
 returns-then-earlier-eq-CODE c =
-    let short : client_over ((record { id = c.args.id.now; name = given c.args.name c.args.names.now; password = given c.args.password c.args.passwords.now; address = given c.args.address c.args.addresses.now; protocol = protocol_of c.args.protocol })) ≡ false = client_told ((record { id = c.args.id.now; name = given c.args.name c.args.names.now; password = given c.args.password c.args.passwords.now; address = given c.args.address c.args.addresses.now; protocol = protocol_of c.args.protocol })) c.client_over.ensures c.if-client_over.false in
-    let within : question_cause ((subscribe c.args.earlier ((record { id = c.args.id.now; name = given c.args.name c.args.names.now; password = given c.args.password c.args.passwords.now; address = given c.args.address c.args.addresses.now; protocol = protocol_of c.args.protocol })) c.args.topic.now c.args.qos)) ≡ none = first-none _ _ (neither (client_over ((record { id = c.args.id.now; name = given c.args.name c.args.names.now; password = given c.args.password c.args.passwords.now; address = given c.args.address c.args.addresses.now; protocol = protocol_of c.args.protocol }))) _ (short) (le-ltb _ _ c.if-topic-gt-TEXT.false))
+    let who : Client = record { id = c.args.id.now; name = given c.args.name c.args.names.now; password = given c.args.password c.args.passwords.now; address = given c.args.address c.args.addresses.now; protocol = protocol_of c.args.protocol } in
+    let asked : Question = subscribe c.args.earlier who c.args.topic.now c.args.qos in
+    let short : client_over who ≡ false = client_told who c.client_over.ensures c.if-client_over.false in
+    let within : question_cause asked ≡ none = first-none _ _ (neither (client_over who) _ short (le-ltb _ _ c.if-topic-gt-TEXT.false))
     (neither _ _ (le-ltb _ _ c.if-earlier-gt-CODE.false) (le-ltb _ _ c.if-qos-gt-QOS.false)) in
     let laid : shape_of (view c.args.store.now) ≡ LaidOut c.in-LaidOut.shape = sym c.shape.ensures ∙ c.in-LaidOut.is in
-        sym (keeps_laid ((subscribe c.args.earlier ((record { id = c.args.id.now; name = given c.args.name c.args.names.now; password = given c.args.password c.args.passwords.now; address = given c.args.address c.args.addresses.now; protocol = protocol_of c.args.protocol })) c.args.topic.now c.args.qos)) c.args.store.now (within) (laid) (code_kept _ c.if-earlier-eq-CODE.true))
+    sym (keeps_laid asked c.args.store.now within laid (code_kept _ c.if-earlier-eq-CODE.true))
 
 pub deciding_on-requires : goal.deciding_on-requires
 deciding_on-requires c =
@@ -69,37 +79,37 @@ deciding_on-requires c =
     laid
 
 pub returns-then-allow : goal.returns-then-allow
-unfolding allowed subscribe_says
-unfolding question_cause
-unfolding keeps client wish wish_of
+unfolding allowed subscribe_says question_cause keeps client wish wish_of
 returns-then-allow c =
-    let short : client_over ((record { id = c.args.id.now; name = given c.args.name c.args.names.now; password = given c.args.password c.args.passwords.now; address = given c.args.address c.args.addresses.now; protocol = protocol_of c.args.protocol })) ≡ false = client_told ((record { id = c.args.id.now; name = given c.args.name c.args.names.now; password = given c.args.password c.args.passwords.now; address = given c.args.address c.args.addresses.now; protocol = protocol_of c.args.protocol })) c.client_over.ensures c.if-client_over.false in
-    let within : question_cause ((subscribe c.args.earlier ((record { id = c.args.id.now; name = given c.args.name c.args.names.now; password = given c.args.password c.args.passwords.now; address = given c.args.address c.args.addresses.now; protocol = protocol_of c.args.protocol })) c.args.topic.now c.args.qos)) ≡ none = first-none _ _ (neither (client_over ((record { id = c.args.id.now; name = given c.args.name c.args.names.now; password = given c.args.password c.args.passwords.now; address = given c.args.address c.args.addresses.now; protocol = protocol_of c.args.protocol }))) _ (short) (le-ltb _ _ c.if-topic-gt-TEXT.false))
+    let who : Client = record { id = c.args.id.now; name = given c.args.name c.args.names.now; password = given c.args.password c.args.passwords.now; address = given c.args.address c.args.addresses.now; protocol = protocol_of c.args.protocol } in
+    let asked : Question = subscribe c.args.earlier who c.args.topic.now c.args.qos in
+    let short : client_over who ≡ false = client_told who c.client_over.ensures c.if-client_over.false in
+    let within : question_cause asked ≡ none = first-none _ _ (neither (client_over who) _ short (le-ltb _ _ c.if-topic-gt-TEXT.false))
     (neither _ _ (le-ltb _ _ c.if-earlier-gt-CODE.false) (le-ltb _ _ c.if-qos-gt-QOS.false)) in
     let laid : shape_of (view c.args.store.now) ≡ LaidOut c.in-LaidOut.shape = sym c.shape.ensures ∙ c.in-LaidOut.is in
-    let decided : Asks ((subscribe c.args.earlier ((record { id = c.args.id.now; name = given c.args.name c.args.names.now; password = given c.args.password c.args.passwords.now; address = given c.args.address c.args.addresses.now; protocol = protocol_of c.args.protocol })) c.args.topic.now c.args.qos)) c.args.store.now c.in-LaidOut.shape c.deciding_on.result = record { cause = within; laid = laid; new = code_new _ c.if-earlier-eq-CODE.false; told = c.deciding_on.ensures } in
-    sym (allows_laid (decided) c.in-Rule.is c.if-allow.true)
+    let decided : Asks asked c.args.store.now c.in-LaidOut.shape c.deciding_on.result = record { cause = within; laid = laid; new = code_new _ c.if-earlier-eq-CODE.false; told = c.deciding_on.ensures } in
+    sym (allows_laid decided c.in-Rule.is c.if-allow.true)
 
 pub returns-in-NoRule : goal.returns-in-NoRule
-unfolding refusal subscribe_says
-unfolding question_cause
-unfolding keeps client wish wish_of
+unfolding refusal subscribe_says question_cause keeps client wish wish_of
 returns-in-NoRule c =
-    let short : client_over ((record { id = c.args.id.now; name = given c.args.name c.args.names.now; password = given c.args.password c.args.passwords.now; address = given c.args.address c.args.addresses.now; protocol = protocol_of c.args.protocol })) ≡ false = client_told ((record { id = c.args.id.now; name = given c.args.name c.args.names.now; password = given c.args.password c.args.passwords.now; address = given c.args.address c.args.addresses.now; protocol = protocol_of c.args.protocol })) c.client_over.ensures c.if-client_over.false in
-    let within : question_cause ((subscribe c.args.earlier ((record { id = c.args.id.now; name = given c.args.name c.args.names.now; password = given c.args.password c.args.passwords.now; address = given c.args.address c.args.addresses.now; protocol = protocol_of c.args.protocol })) c.args.topic.now c.args.qos)) ≡ none = first-none _ _ (neither (client_over ((record { id = c.args.id.now; name = given c.args.name c.args.names.now; password = given c.args.password c.args.passwords.now; address = given c.args.address c.args.addresses.now; protocol = protocol_of c.args.protocol }))) _ (short) (le-ltb _ _ c.if-topic-gt-TEXT.false))
+    let who : Client = record { id = c.args.id.now; name = given c.args.name c.args.names.now; password = given c.args.password c.args.passwords.now; address = given c.args.address c.args.addresses.now; protocol = protocol_of c.args.protocol } in
+    let asked : Question = subscribe c.args.earlier who c.args.topic.now c.args.qos in
+    let short : client_over who ≡ false = client_told who c.client_over.ensures c.if-client_over.false in
+    let within : question_cause asked ≡ none = first-none _ _ (neither (client_over who) _ short (le-ltb _ _ c.if-topic-gt-TEXT.false))
     (neither _ _ (le-ltb _ _ c.if-earlier-gt-CODE.false) (le-ltb _ _ c.if-qos-gt-QOS.false)) in
     let laid : shape_of (view c.args.store.now) ≡ LaidOut c.in-LaidOut.shape = sym c.shape.ensures ∙ c.in-LaidOut.is in
-    let decided : Asks ((subscribe c.args.earlier ((record { id = c.args.id.now; name = given c.args.name c.args.names.now; password = given c.args.password c.args.passwords.now; address = given c.args.address c.args.addresses.now; protocol = protocol_of c.args.protocol })) c.args.topic.now c.args.qos)) c.args.store.now c.in-LaidOut.shape c.deciding_on.result = record { cause = within; laid = laid; new = code_new _ c.if-earlier-eq-CODE.false; told = c.deciding_on.ensures } in
-    sym (none_laid (decided) c.in-NoRule.is)
+    let decided : Asks asked c.args.store.now c.in-LaidOut.shape c.deciding_on.result = record { cause = within; laid = laid; new = code_new _ c.if-earlier-eq-CODE.false; told = c.deciding_on.ensures } in
+    sym (none_laid decided c.in-NoRule.is)
 
 pub returns-else-allow : goal.returns-else-allow
-unfolding refusal subscribe_says
-unfolding question_cause
-unfolding keeps client wish wish_of
+unfolding refusal subscribe_says question_cause keeps client wish wish_of
 returns-else-allow c =
-    let short : client_over ((record { id = c.args.id.now; name = given c.args.name c.args.names.now; password = given c.args.password c.args.passwords.now; address = given c.args.address c.args.addresses.now; protocol = protocol_of c.args.protocol })) ≡ false = client_told ((record { id = c.args.id.now; name = given c.args.name c.args.names.now; password = given c.args.password c.args.passwords.now; address = given c.args.address c.args.addresses.now; protocol = protocol_of c.args.protocol })) c.client_over.ensures c.if-client_over.false in
-    let within : question_cause ((subscribe c.args.earlier ((record { id = c.args.id.now; name = given c.args.name c.args.names.now; password = given c.args.password c.args.passwords.now; address = given c.args.address c.args.addresses.now; protocol = protocol_of c.args.protocol })) c.args.topic.now c.args.qos)) ≡ none = first-none _ _ (neither (client_over ((record { id = c.args.id.now; name = given c.args.name c.args.names.now; password = given c.args.password c.args.passwords.now; address = given c.args.address c.args.addresses.now; protocol = protocol_of c.args.protocol }))) _ (short) (le-ltb _ _ c.if-topic-gt-TEXT.false))
+    let who : Client = record { id = c.args.id.now; name = given c.args.name c.args.names.now; password = given c.args.password c.args.passwords.now; address = given c.args.address c.args.addresses.now; protocol = protocol_of c.args.protocol } in
+    let asked : Question = subscribe c.args.earlier who c.args.topic.now c.args.qos in
+    let short : client_over who ≡ false = client_told who c.client_over.ensures c.if-client_over.false in
+    let within : question_cause asked ≡ none = first-none _ _ (neither (client_over who) _ short (le-ltb _ _ c.if-topic-gt-TEXT.false))
     (neither _ _ (le-ltb _ _ c.if-earlier-gt-CODE.false) (le-ltb _ _ c.if-qos-gt-QOS.false)) in
     let laid : shape_of (view c.args.store.now) ≡ LaidOut c.in-LaidOut.shape = sym c.shape.ensures ∙ c.in-LaidOut.is in
-    let decided : Asks ((subscribe c.args.earlier ((record { id = c.args.id.now; name = given c.args.name c.args.names.now; password = given c.args.password c.args.passwords.now; address = given c.args.address c.args.addresses.now; protocol = protocol_of c.args.protocol })) c.args.topic.now c.args.qos)) c.args.store.now c.in-LaidOut.shape c.deciding_on.result = record { cause = within; laid = laid; new = code_new _ c.if-earlier-eq-CODE.false; told = c.deciding_on.ensures } in
-    sym (refuses_laid (decided) c.in-Rule.is c.if-allow.false)
+    let decided : Asks asked c.args.store.now c.in-LaidOut.shape c.deciding_on.result = record { cause = within; laid = laid; new = code_new _ c.if-earlier-eq-CODE.false; told = c.deciding_on.ensures } in
+    sym (refuses_laid decided c.in-Rule.is c.if-allow.false)

@@ -4,8 +4,7 @@
 -- at the most, agrees if and only if one of all does. The measure is `turns`. Assumes nothing.
 use Prim.Native.Nat.{◌-◌}
 use mathlib.Core.Path.{◌≡◌, refl, sym, ap, ◌∙◌}
-use mathlib.Core.Bool.{true}
-use mathlib.Core.Logic.{⊎_elim}
+use mathlib.Core.Bool.{true, false}
 use native.Mathlib.Omega.{arith}
 use lib.ListN.{length, drop}
 use Rattle.json_text.specs.Access.{first_item}
@@ -16,6 +15,7 @@ use Rattle.questions.specs.Parts.{protocol_of, every_rule, some_topic_from}
 use Rattle.questions.proofs.DecisionLaws.{Walks, here, none_decides, here_less, here_differs, here_passes, all_decides, topic_decides, eq_decides, filter_decides, some_end, some_none}
 use Rattle.questions.proofs.PassLaws.{some_passed, every_here, next_line_lem}
 use borrow.Author.Rules.{rules}
+use Rattle.questions.proofs.decision.deciding_in.Goals.{then-rules-at, else-rules-at+in-Agrees+in-All, else-rules-at+in-Agrees+in-Listed+then-topics-test+in-At+in-Agrees-pass_topic, else-rules-at+in-Agrees+in-Listed+then-eq_row_agrees, else-rules-at+in-Agrees+in-Listed+else-eq_row_agrees+then-filter_row_agrees, else-topics-test, then-topics-test+in-Nowhere}
 use Rattle.questions.proofs.decision.deciding_in.Goals as goal
 
 pub rules-init : goal.rules-init
@@ -35,8 +35,7 @@ rules-smaller-in-Differs c =
     here_less (here c.rules.invariant.0 c.if-rules-at.false c.line_at-line.ensures (next_line_lem _ _ c.line_at-line.ensures c.line_behind-at.ensures))
 
 pub rules-preserved-in-Differs : goal.rules-preserved-in-Differs
-rules-preserved-in-Differs c =
-    (
+rules-preserved-in-Differs c = (
   here_differs (here c.rules.invariant.0 c.if-rules-at.false c.line_at-line.ensures (next_line_lem _ _ c.line_at-line.ensures c.line_behind-at.ensures))
       (sym c.head_of.ensures ∙ c.in-Differs.is),
   λ k. (every_here _ _ c.if-rules-at.false c.line_at-line.ensures (next_line_lem _ _ c.line_at-line.ensures c.line_behind-at.ensures) (c.rules.invariant.1 k)).1,
@@ -64,7 +63,12 @@ rules-smaller c =
 
 pub rules-preserved : goal.rules-preserved
 rules-preserved c =
-    let passed = sym c.topics.invariant ∙ ⊎_elim (λ w. some_none _ _ _ _ w.left) (λ w. some_end _ _ _ w.2.given.1) c.topics-test.branch in (
+    let left : some_topic_from c.args.topic.now c.topics.turns c.line_at-line.result.now c.topics.next ≡ false =
+    elim c.topics-test.branch [
+      | else-topics-test w ↦ some_none _ _ _ _ w.topics-test.false
+      | then-topics-test+in-Nowhere w ↦ some_end _ _ _ w.in-Nowhere.is
+    ] in
+    let passed = sym c.topics.invariant ∙ left in (
       here_passes (here c.rules.invariant.0 c.if-rules-at.false c.line_at-line.ensures (next_line_lem _ _ c.line_at-line.ensures c.line_behind-at.ensures))
           (sym c.head_of.ensures ∙ c.in-Agrees.is) c.in-Listed.is passed
           (sym c.eq_row_agrees.ensures ∙ c.if-eq_row_agrees.false) (sym c.filter_row_agrees.ensures ∙ c.if-filter_row_agrees.false),
@@ -73,20 +77,29 @@ rules-preserved c =
 
 pub returns-then-decided-eq0 : goal.returns-then-decided-eq0
 returns-then-decided-eq0 c =
-    ⊎_elim (λ w. none_decides _ _ _ _ _ _ c.rules.n c.rules.at c.rules.invariant.0 w.0.taken)
-    (⊎_elim (λ w. absurd (omega (arith, w.13)))
-    (⊎_elim (λ w. absurd (omega (arith, w.23)))
-    (⊎_elim (λ w. absurd (omega (arith, w.19))) (λ w. absurd (omega (arith, w.21))))))
-    c.if-rules-at.branch
+    elim c.if-rules-at.branch [
+      | then-rules-at w ↦ none_decides _ _ _ _ _ _ c.rules.n c.rules.at c.rules.invariant.0 w.if-rules-at.true
+      | else-rules-at+in-Agrees+in-All w ↦ absurd (omega (arith, w.decided-is))
+      | else-rules-at+in-Agrees+in-Listed+then-topics-test+in-At+in-Agrees-pass_topic w ↦ absurd (omega (arith, w.decided-is))
+      | else-rules-at+in-Agrees+in-Listed+then-eq_row_agrees w ↦ absurd (omega (arith, w.decided-is))
+      | else-rules-at+in-Agrees+in-Listed+else-eq_row_agrees+then-filter_row_agrees w ↦ absurd (omega (arith, w.decided-is))
+    ]
 
 pub returns : goal.returns
 returns c =
-    ⊎_elim (λ w. absurd (c.if-decided-eq0.false w.5))
-    (⊎_elim (λ w. all_decides (here c.rules.invariant.0 w.0.left w.1.ensures (next_line_lem _ _ w.1.ensures w.2.ensures)) (sym w.3.ensures ∙ w.5.given.1) w.9 w.10 w.13 w.8.given.1)
-    (⊎_elim
-    (λ w. topic_decides (here c.rules.invariant.0 w.0.left w.1.ensures (next_line_lem _ _ w.1.ensures w.2.ensures)) (sym w.3.ensures ∙ w.5.given.1) w.19 w.20 w.23 w.8.given.1
-    (sym w.11.inv ∙ some_passed _ _ w.11.turns w.12.taken w.14.given.1 (sym w.16.ensures ∙ w.18.given.1)))
-    (⊎_elim
-    (λ w. eq_decides (here c.rules.invariant.0 w.0.left w.1.ensures (next_line_lem _ _ w.1.ensures w.2.ensures)) (sym w.3.ensures ∙ w.5.given.1) w.15 w.16 w.19 w.8.given.1 (sym w.13.ensures ∙ w.14.taken))
-    (λ w. filter_decides (here c.rules.invariant.0 w.0.left w.1.ensures (next_line_lem _ _ w.1.ensures w.2.ensures)) (sym w.3.ensures ∙ w.5.given.1) w.17 w.18 w.21 w.8.given.1 (sym w.15.ensures ∙ w.16.taken)))))
-    c.if-rules-at.branch
+    elim c.if-rules-at.branch [
+      | then-rules-at w ↦ absurd (c.if-decided-eq0.false w.decided-is)
+      | else-rules-at+in-Agrees+in-All w ↦
+          all_decides (here c.rules.invariant.0 w.if-rules-at.false w.line_at-line.ensures (next_line_lem _ _ w.line_at-line.ensures w.line_behind-at.ensures))
+          (sym w.head_of.ensures ∙ w.in-Agrees.is) w.allow-is w.superuser-is w.decided-is w.in-All.is
+      | else-rules-at+in-Agrees+in-Listed+then-topics-test+in-At+in-Agrees-pass_topic w ↦
+          topic_decides (here c.rules.invariant.0 w.if-rules-at.false w.line_at-line.ensures (next_line_lem _ _ w.line_at-line.ensures w.line_behind-at.ensures))
+          (sym w.head_of.ensures ∙ w.in-Agrees.is) w.allow-is w.superuser-is w.decided-is w.in-Listed.is
+          (sym w.topics.invariant ∙ some_passed _ _ w.topics.turns w.topics-test.true w.in-At.is (sym w.pass_topic.ensures ∙ w.in-Agrees-pass_topic.is))
+      | else-rules-at+in-Agrees+in-Listed+then-eq_row_agrees w ↦
+          eq_decides (here c.rules.invariant.0 w.if-rules-at.false w.line_at-line.ensures (next_line_lem _ _ w.line_at-line.ensures w.line_behind-at.ensures))
+          (sym w.head_of.ensures ∙ w.in-Agrees.is) w.allow-is w.superuser-is w.decided-is w.in-Listed.is (sym w.eq_row_agrees.ensures ∙ w.if-eq_row_agrees.true)
+      | else-rules-at+in-Agrees+in-Listed+else-eq_row_agrees+then-filter_row_agrees w ↦
+          filter_decides (here c.rules.invariant.0 w.if-rules-at.false w.line_at-line.ensures (next_line_lem _ _ w.line_at-line.ensures w.line_behind-at.ensures))
+          (sym w.head_of.ensures ∙ w.in-Agrees.is) w.allow-is w.superuser-is w.decided-is w.in-Listed.is (sym w.filter_row_agrees.ensures ∙ w.if-filter_row_agrees.true)
+    ]

@@ -5,7 +5,6 @@
 use Prim.Native.Nat.{◌-◌}
 use mathlib.Core.Path.{◌≡◌, refl, sym, ap, ◌∙◌}
 use mathlib.Core.Bool.{true}
-use mathlib.Core.Logic.{⊎_elim}
 use native.Mathlib.Omega.{arith}
 use lib.ListN.{length, drop}
 use Rattle.json_text.specs.Access.{first_item}
@@ -28,7 +27,7 @@ decreases-topics l =
 
 abbrev pub invariant-rules : goal.invariant-rules
 invariant-rules l =
-    Walks l.filters l.eqs (record { l.id = l.id; l.name = given l.name l.names; l.password = given l.password l.passwords; l.address = given l.address l.addresses; l.protocol = protocol_of l.protocol }) l.asked l.topic l.rules l.n l.at
+    Walks l.filters l.eqs (record { id = l.id; name = given l.name l.names; password = given l.password l.passwords; address = given l.address l.addresses; protocol = protocol_of l.protocol }) l.asked l.topic l.rules l.n l.at
     × (l.checked ≡ true → every_rule (lines (drop l.at l.rules)) ≡ true)
 
 abbrev pub decreases-rules : goal.decreases-rules

@@ -1,6 +1,6 @@
 -- By its tests. Assumes nothing.
 use mathlib.Core.Path.{refl, sym, ◌∙◌}
-use borrow.Author.Tests.{lt-ltb, le-ltb, not-true, not-false}
+use borrow.Author.Tests.{lt-ltb, le-ltb}
 use lib.ListN.{length}
 use Rattle.questions.proofs.PassLaws.{eq_text_by}
 use borrow.Author.Rules.{rules}

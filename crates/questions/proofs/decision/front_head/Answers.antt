@@ -1,6 +1,5 @@
 -- The users differ, or behind them the control covers what is asked or not; the line is a rule, so these are its own. Assumes nothing.
 use mathlib.Core.Path.{sym, ap, ◌∙◌}
-use borrow.Author.Tests.{not-true, not-false}
 use Rattle.rule.proofs.FrontLaws.{front_told, rest_told}
 use Rattle.questions.specs.declared.Head.TheVariants.{Agrees}
 use Rattle.questions.proofs.PassLaws.{front_differs, front_agrees}

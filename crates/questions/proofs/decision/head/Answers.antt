@@ -1,6 +1,5 @@
 -- By what `read_rule` answers, `covers` and `identity`; what `identity` says of places is what the rule means. Assumes nothing.
 use mathlib.Core.Path.{refl, sym, ap, ◌∙◌}
-use borrow.Author.Tests.{not-true, not-false}
 use Rattle.questions.specs.declared.Head.TheVariants.{Agrees}
 use Rattle.questions.proofs.HeadLaws.{head_with, head_by, head_by_lem, head_read}
 use borrow.Author.Rules.{rules}

@@ -1,6 +1,6 @@
 -- By its tests: texts that begin apart, T, the length, the template and the validity. Assumes nothing.
 use mathlib.Core.Path.{refl, sym, ◌∙◌}
-use borrow.Author.Tests.{lt-ltb, le-ltb, not-true, not-false}
+use borrow.Author.Tests.{lt-ltb, le-ltb}
 use lib.ListN.{length}
 use Rattle.topic.proofs.Apart.{apart_no_match}
 use Rattle.questions.proofs.PassLaws.{known_match, text_by}

@@ -18,4 +18,4 @@ returns-in-Eq c =
 
 pub returns-in_default : goal.returns-in_default
 returns-in_default c =
-    sym (topic_by c.args.topic.now c.args.line.now c.args.at (sym c.topic_at.ensures) ∙ none_agrees c.args.topic.now c.args.line.now _ c.in_default.keys3)
+    sym (topic_by c.args.topic.now c.args.line.now c.args.at (sym c.topic_at.ensures) ∙ none_agrees c.args.topic.now c.args.line.now _ c.in_default.not-Filter c.in_default.not-Eq)

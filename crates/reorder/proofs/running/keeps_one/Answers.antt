@@ -23,14 +23,13 @@ returns-then-share c =
     sym (one_before c.args.n c.args.order.now c.loop-i.i (omega arith) c.if-later-n.false c.if-later-n-2.true (sym c.share.ensures ∙ c.if-share.true)) ∙ c.loop-i.invariant.1
 
 pub loop-i-preserved : goal.loop-i-preserved
-loop-i-preserved c =
-    (
-      omega arith,
-      ⊎_elim
-          (λ w. sym (one_apart c.args.n c.args.order.now c.loop-i.i (omega arith) c.if-later-n.false (sym w.1.ensures ∙ w.2.left)) ∙ c.loop-i.invariant.1)
-          (λ w. sym (one_behind c.args.n c.args.order.now c.loop-i.i (omega arith) c.if-later-n.false w.left) ∙ c.loop-i.invariant.1)
-          c.if-later-n-2.branch,
-    )
+loop-i-preserved c = (
+  omega arith,
+  ⊎_elim
+      (λ w. sym (one_apart c.args.n c.args.order.now c.loop-i.i (omega arith) c.if-later-n.false (sym w.1.ensures ∙ w.2.left)) ∙ c.loop-i.invariant.1)
+      (λ w. sym (one_behind c.args.n c.args.order.now c.loop-i.i (omega arith) c.if-later-n.false w.left) ∙ c.loop-i.invariant.1)
+      c.if-later-n-2.branch,
+)
 
 pub returns : goal.returns
 returns c =

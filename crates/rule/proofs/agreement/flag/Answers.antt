@@ -1,9 +1,7 @@
 -- Each return has the tests of `flag_of` that led there. Assumes nothing.
 use mathlib.Core.Path.{refl, sym, ap, ◌∙◌}
-use borrow.Author.Tests.{not-true, not-false}
 use Rattle.rule.specs.Agreement.{any_protocol, flag_of_user}
 use Rattle.rule.proofs.AgreementLaws.{flag_by}
-use borrow.Author.Rules.{rules}
 use Rattle.rule.proofs.agreement.flag.Goals as goal
 
 pub returns-in-Is : goal.returns-in-Is

@@ -1,12 +1,10 @@
 -- Each return has the tests of `identity_at` that led there. Assumes nothing.
 use mathlib.Core.Path.{refl, sym, ap, ◌∙◌}
 use native.Mathlib.Omega.{arith}
-use borrow.Author.Tests.{not-true, not-false}
 use lib.ListN.{length}
 use Rattle.rule.specs.Places.{given}
 use Rattle.rule.specs.Agreement.{place_agrees}
 use Rattle.rule.proofs.AgreementLaws.{given_whole, identity_by_lem}
-use borrow.Author.Rules.{rules}
 use Rattle.rule.proofs.agreement.identity.Goals as goal
 
 pub returns-then-not-user_agrees : goal.returns-then-not-user_agrees

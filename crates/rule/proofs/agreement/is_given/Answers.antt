@@ -5,7 +5,6 @@ use lib.Seq.{length-take-le}
 use Rattle.rule.specs.Places.{given}
 use Rattle.rule.specs.Agreement.{is_given}
 use Rattle.rule.proofs.AgreementLaws.{given_whole}
-use borrow.Author.Rules.{rules}
 use Rattle.rule.proofs.agreement.is_given.Goals as goal
 
 pub returns-in_default : goal.returns-in_default

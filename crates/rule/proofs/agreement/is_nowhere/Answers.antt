@@ -1,6 +1,5 @@
 -- Each arm computes. Assumes nothing.
 use Rattle.rule.specs.Agreement.{is_nowhere}
-use borrow.Author.Rules.{rules}
 use Rattle.rule.proofs.agreement.is_nowhere.Goals as goal
 
 pub returns-in-Nowhere : goal.returns-in-Nowhere

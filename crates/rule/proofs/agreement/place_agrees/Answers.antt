@@ -1,6 +1,5 @@
 -- Each arm computes. Assumes nothing.
 use Rattle.rule.specs.Agreement.{place_agrees}
-use borrow.Author.Rules.{rules}
 use Rattle.rule.proofs.agreement.place_agrees.Goals as goal
 
 pub returns-in-Nowhere : goal.returns-in-Nowhere

@@ -1,6 +1,5 @@
 -- Each arm computes. Assumes nothing.
 use Rattle.rule.specs.Agreement.{protocol_agrees, protocol_given}
-use borrow.Author.Rules.{rules}
 use Rattle.rule.proofs.agreement.protocol_agrees.Goals as goal
 
 pub returns-in-Any : goal.returns-in-Any

@@ -1,8 +1,6 @@
 -- The name is tested first. Assumes nothing.
 use mathlib.Core.Path.{sym, ◌∙◌}
-use borrow.Author.Tests.{not-true, not-false}
 use Rattle.rule.specs.Agreement.{user_place_agrees}
-use borrow.Author.Rules.{rules}
 use Rattle.rule.proofs.agreement.user_agrees.Goals as goal
 
 pub returns-then-not-is_given : goal.returns-then-not-is_given

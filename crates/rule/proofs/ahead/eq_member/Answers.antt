@@ -1,11 +1,9 @@
 -- One member, with a plain name and a plain string. Assumes nothing.
 use native.Mathlib.Omega.{arith}
 use mathlib.Core.Path.{refl, sym, ap, ◌∙◌}
-use borrow.Author.Tests.{not-false, not-true}
 use Rattle.json_text.proofs.PlainLaws.{Plain, plain_string}
 use Rattle.rule.specs.Front.{eq_named, eq_valued, eq_quoted, eq_before}
 use Rattle.rule.proofs.OnePassLaws.{eq_valued_lem, eq_quoted_lem, eq_ended}
-use borrow.Author.Rules.{rules}
 use Rattle.rule.proofs.ahead.eq_member.Goals as goal
 
 pub returns-in_default : goal.returns-in_default

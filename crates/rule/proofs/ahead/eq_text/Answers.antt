@@ -1,12 +1,9 @@
 -- By the kind of what stands there: an object, or something else. Assumes nothing.
 use native.Mathlib.Omega.{arith}
 use mathlib.Core.Path.{sym, ◌∙◌}
-use mathlib.Core.List.{[], ◌∷◌}
-use Rattle.json_text.specs.declared.Kind.TheVariants.{Object}
 use Rattle.json_text.proofs.ScanLaws.{at_within}
-use Rattle.rule.proofs.MemberLaws.{other_kind, object_opens, no_object}
+use Rattle.rule.proofs.MemberLaws.{object_opens, no_object}
 use Rattle.rule.proofs.OnePassLaws.{eq_unopened, eq_named_lem}
-use borrow.Author.Rules.{rules}
 use Rattle.rule.proofs.ahead.eq_text.Goals as goal
 
 pub overflow_add-at : goal.overflow_add-at
@@ -19,4 +16,4 @@ returns-in-Object c =
 
 pub returns-in_default : goal.returns-in_default
 returns-in_default c =
-    sym (eq_unopened c.args.line.now c.args.at (no_object c.args.line.now c.args.at (λ e. other_kind (0 ∷ 1 ∷ 2 ∷ 4 ∷ 5 ∷ 6 ∷ []) c.kind_at.result Object c.in_default.keys2 tt (c.kind_at.ensures ∙ e))))
+    sym (eq_unopened c.args.line.now c.args.at (no_object c.args.line.now c.args.at (λ e. c.in_default.not-Object (c.kind_at.ensures ∙ e))))

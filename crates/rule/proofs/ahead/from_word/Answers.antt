@@ -3,9 +3,8 @@ use native.Mathlib.Omega.{arith}
 use mathlib.Core.Path.{refl, sym, ap, ◌∙◌}
 use Rattle.json_text.proofs.PlainLaws.{Plain, plain_string}
 use Rattle.rule.specs.Places.{control_of_word}
-use Rattle.rule.specs.Front.{word_from, word_between, rest_with, topics_before}
+use Rattle.rule.specs.Front.{word_from, rest_with, topics_before}
 use Rattle.rule.proofs.FrontLaws.{word_rest}
-use borrow.Author.Rules.{rules}
 use Rattle.rule.proofs.ahead.from_word.Goals as goal
 
 pub returns-in_default : goal.returns-in_default

@@ -1,7 +1,6 @@
 -- By what stands behind the users: a control, or the end of the array. Assumes nothing.
 use mathlib.Core.Path.{sym, ap, ◌∙◌}
 use Rattle.rule.specs.Front.{rest_of, rest_behind}
-use borrow.Author.Rules.{rules}
 use Rattle.rule.proofs.ahead.rest.Goals as goal
 
 pub returns-in-Close : goal.returns-in-Close

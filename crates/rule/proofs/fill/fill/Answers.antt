@@ -6,7 +6,6 @@ use Rattle.rule.specs.Places.{given}
 use Rattle.json_text.specs.Strings.{string_at}
 use Rattle.rule.proofs.DecodeLaws.{decoded_length, decoded_over, decoded_none}
 use Rattle.rule.proofs.FillLaws.{template_over, not_filled, filled_here, filled_nowhere}
-use borrow.Author.Rules.{rules}
 use Rattle.rule.proofs.fill.fill.Goals as goal
 
 pub slice_bounds-template-end : goal.slice_bounds-template-end

@@ -3,7 +3,6 @@ use mathlib.Core.Path.{sym}
 use Prim.Native.Nat.{ℕ}
 use lib.ListN.{replicate, length-replicate}
 use lib.Seq.{length-take-le}
-use borrow.Author.Rules.{rules}
 use Rattle.rule.specs.Places.{given}
 use Rattle.rule.proofs.FillLaws.{first_fits, first_room, first_front, filled_by}
 use Rattle.rule.proofs.fill.fill_large.Goals as goal
@@ -18,7 +17,7 @@ slice_bounds-fill_name-end c =
 
 pub returns-in-TooLong : goal.returns-in-TooLong
 returns-in-TooLong c =
-    let whole = absurd (first_fits c.args.template.now c.args.id.now (replicate 8192 0) c.requires.0 c.requires.1 (length-replicate {A = ℕ} 8192 0) c.replace.ensures.value c.in-TooLong.is) in record { value = whole.0; buffer_after = whole.1 }
+    let never : ⊥ = first_fits c.args.template.now c.args.id.now (replicate 8192 0) c.requires.0 c.requires.1 (length-replicate {A = ℕ} 8192 0) c.replace.ensures.value c.in-TooLong.is in record { value = absurd never; buffer_after = absurd never }
 
 pub returns-in-Length : goal.returns-in-Length
 returns-in-Length c =

@@ -1,5 +1,4 @@
 -- The answer is that of the replacement. Assumes nothing.
-use borrow.Author.Rules.{rules}
 use Rattle.rule.specs.Places.{given}
 use Rattle.rule.proofs.FillLaws.{name_over, name_to}
 use Rattle.rule.proofs.fill.fill_name.Goals as goal

@@ -2,7 +2,6 @@
 use mathlib.Core.Path.{sym}
 use lib.ListN.{replicate}
 use lib.Seq.{length-take-le}
-use borrow.Author.Rules.{rules}
 use Rattle.rule.specs.Places.{given}
 use Rattle.rule.proofs.FillLaws.{template_over, id_over, not_filled, first_room, first_front, filled_by}
 use Rattle.rule.proofs.fill.fill_text.Goals as goal

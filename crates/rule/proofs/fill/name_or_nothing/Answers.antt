@@ -5,7 +5,6 @@ use lib.Seq.{length-take-le}
 use Rattle.rule.specs.Places.{given}
 use Rattle.rule.specs.Fill.{or_nothing}
 use Rattle.rule.proofs.AgreementLaws.{given_whole}
-use borrow.Author.Rules.{rules}
 use Rattle.rule.proofs.fill.name_or_nothing.Goals as goal
 
 pub slice_bounds-result-end-then-n-names : goal.slice_bounds-result-end-then-n-names

@@ -1,10 +1,7 @@
 -- Each return has the kind that led there. Assumes nothing.
 use mathlib.Core.Path.{sym, ap, ◌∙◌}
-use mathlib.Core.List.{[], ◌∷◌}
-use Rattle.rule.proofs.MemberLaws.{other_kind, not_text}
+use Rattle.rule.proofs.MemberLaws.{not_text}
 use Rattle.rule.specs.Places.{is_text_at, is_text_kind}
-use Rattle.json_text.specs.declared.Kind.TheVariants.{Text}
-use borrow.Author.Rules.{rules}
 use Rattle.rule.proofs.listed.is_text.Goals as goal
 
 pub returns-in-Text : goal.returns-in-Text
@@ -14,4 +11,4 @@ returns-in-Text c =
 
 pub returns-in_default : goal.returns-in_default
 returns-in_default c =
-    sym (not_text c.args.line.now c.args.at (λ e. other_kind (0 ∷ 2 ∷ 3 ∷ 4 ∷ 5 ∷ 6 ∷ []) c.kind_at.result Text c.in_default.keys2 tt (c.kind_at.ensures ∙ e)))
+    sym (not_text c.args.line.now c.args.at (λ e. c.in_default.not-Text (c.kind_at.ensures ∙ e)))

@@ -1,9 +1,7 @@
 -- By the object's members. Assumes nothing.
-use mathlib.Core.Path.{◌≡◌, sym, ◌∙◌}
+use mathlib.Core.Path.{sym, ◌∙◌}
 use Rattle.rule.specs.Members.{places_at}
-use Rattle.rule.specs.declared.MemberPlaces.{MemberPlaces}
 use Rattle.rule.proofs.MemberLaws.{users_absent, users_listed_lem}
-use borrow.Author.Rules.{rules}
 use Rattle.rule.proofs.listed.listed_users.Goals as goal
 
 pub returns-in_default : goal.returns-in_default

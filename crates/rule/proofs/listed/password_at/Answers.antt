@@ -2,7 +2,6 @@
 use mathlib.Core.Path.{sym, ap, ◌∙◌}
 use Rattle.rule.specs.Members.{password_from}
 use Rattle.rule.proofs.MemberLaws.{password_here}
-use borrow.Author.Rules.{rules}
 use Rattle.rule.proofs.listed.password_at.Goals as goal
 
 pub returns-then-is_text : goal.returns-then-is_text

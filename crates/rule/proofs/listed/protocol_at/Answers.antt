@@ -1,7 +1,6 @@
 -- The protocol is that of the number. Assumes nothing.
 use mathlib.Core.Path.{sym, ap, ◌∙◌}
 use Rattle.rule.specs.Members.{protocol_from}
-use borrow.Author.Rules.{rules}
 use Rattle.rule.proofs.listed.protocol_at.Goals as goal
 
 pub returns-in-Is : goal.returns-in-Is

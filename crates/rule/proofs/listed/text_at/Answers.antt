@@ -2,7 +2,6 @@
 use mathlib.Core.Path.{sym, ap, ◌∙◌}
 use Rattle.rule.specs.Members.{text_from}
 use Rattle.rule.proofs.MemberLaws.{text_here}
-use borrow.Author.Rules.{rules}
 use Rattle.rule.proofs.listed.text_at.Goals as goal
 
 pub returns-then-is_text : goal.returns-then-is_text

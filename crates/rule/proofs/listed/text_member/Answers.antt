@@ -2,7 +2,6 @@
 use mathlib.Core.Path.{refl, sym, ap, ◌∙◌}
 use Rattle.rule.specs.Members.{text_from}
 use Rattle.rule.proofs.MemberLaws.{text_by}
-use borrow.Author.Rules.{rules}
 use Rattle.rule.proofs.listed.text_member.Goals as goal
 
 pub returns : goal.returns

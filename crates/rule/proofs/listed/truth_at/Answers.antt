@@ -1,7 +1,6 @@
 -- By the place. Assumes nothing.
 use mathlib.Core.Path.{sym, ap, ◌∙◌}
 use Rattle.rule.specs.Members.{truth_from}
-use borrow.Author.Rules.{rules}
 use Rattle.rule.proofs.listed.truth_at.Goals as goal
 
 pub returns-in-At : goal.returns-in-At

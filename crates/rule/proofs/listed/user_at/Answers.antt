@@ -1,9 +1,7 @@
 -- Each return has the members that led there. Assumes nothing.
 use mathlib.Core.Path.{refl, sym, ◌∙◌}
-use borrow.Author.Tests.{not-true, not-false}
 use Rattle.rule.specs.Members.{flagged, with_password, user_from}
 use Rattle.rule.proofs.MemberLaws.{user_listed_lem}
-use borrow.Author.Rules.{rules}
 use Rattle.rule.proofs.listed.user_at.Goals as goal
 
 pub returns-in_default : goal.returns-in_default

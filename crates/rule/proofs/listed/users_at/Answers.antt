@@ -1,11 +1,7 @@
 -- Each return has the kind of the value, and of a string the word. Assumes nothing.
 use mathlib.Core.Path.{sym, ap, ◌∙◌}
-use mathlib.Core.List.{[], ◌∷◌}
-use Rattle.rule.proofs.MemberLaws.{other_kind, other_word, word_users, not_all, users_word, users_object, users_other}
+use Rattle.rule.proofs.MemberLaws.{word_users, not_all, users_word, users_object, users_other}
 use Rattle.rule.specs.Places.{users_answer}
-use Rattle.json_text.specs.declared.Kind.TheVariants.{Text, Object}
-use Rattle.rule.specs.declared.Word.TheVariants.{All}
-use borrow.Author.Rules.{rules}
 use Rattle.rule.proofs.listed.users_at.Goals as goal
 
 pub returns-in-All : goal.returns-in-All
@@ -16,7 +12,7 @@ returns-in-All c =
 pub returns-in_default-word_at : goal.returns-in_default-word_at
 returns-in_default-word_at c =
     sym (users_word c.args.allow c.args.line.now c.args.at (sym c.kind_at.ensures ∙ c.in-Text.is) (sym c.word_at.ensures)
-    ∙ not_all c.word_at.result (other_word (0 ∷ 1 ∷ 3 ∷ 4 ∷ 5 ∷ 6 ∷ 7 ∷ []) c.word_at.result All c.in_default-word_at.keys2 tt))
+    ∙ not_all c.word_at.result c.in_default-word_at.not-All)
 
 pub returns-in-Object : goal.returns-in-Object
 returns-in-Object c =
@@ -24,5 +20,5 @@ returns-in-Object c =
 
 pub returns-in_default : goal.returns-in_default
 returns-in_default c =
-    sym (users_other c.args.allow c.args.line.now c.args.at (λ e. other_kind (0 ∷ 2 ∷ 4 ∷ 5 ∷ 6 ∷ []) c.kind_at.result Text c.in_default.keys3 tt (c.kind_at.ensures ∙ e))
-    (λ e. other_kind (0 ∷ 2 ∷ 4 ∷ 5 ∷ 6 ∷ []) c.kind_at.result Object c.in_default.keys3 tt (c.kind_at.ensures ∙ e)))
+    sym (users_other c.args.allow c.args.line.now c.args.at (λ e. c.in_default.not-Text (c.kind_at.ensures ∙ e))
+    (λ e. c.in_default.not-Object (c.kind_at.ensures ∙ e)))

@@ -2,7 +2,6 @@
 use mathlib.Core.Path.{refl, sym, ◌∙◌}
 use Rattle.rule.specs.Members.{users_from}
 use Rattle.rule.proofs.MemberLaws.{users_places}
-use borrow.Author.Rules.{rules}
 use Rattle.rule.proofs.listed.users_of.Goals as goal
 
 pub returns-in_default : goal.returns-in_default

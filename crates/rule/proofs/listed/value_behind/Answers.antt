@@ -4,7 +4,6 @@ use mathlib.Core.Path.{sym, ap, ◌∙◌}
 use Rattle.json_text.specs.declared.Place.TheVariants.{At}
 use Rattle.json_text.proofs.ScanLaws.{at_within}
 use Rattle.rule.proofs.OnePassLaws.{behind_name}
-use borrow.Author.Rules.{rules}
 use Rattle.rule.proofs.listed.value_behind.Goals as goal
 
 pub overflow_add-p : goal.overflow_add-p

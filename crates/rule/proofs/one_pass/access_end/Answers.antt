@@ -1,12 +1,9 @@
 -- By the kind of the byte that the line begins with: an array, or something else. Assumes nothing.
 use native.Mathlib.Omega.{arith}
 use mathlib.Core.Path.{sym, ◌∙◌}
-use mathlib.Core.List.{[], ◌∷◌}
-use Rattle.json_text.specs.declared.Kind.TheVariants.{Array}
 use Rattle.json_text.proofs.ScanLaws.{at_within}
-use Rattle.rule.proofs.MemberLaws.{other_kind, array_opens, no_array}
+use Rattle.rule.proofs.MemberLaws.{array_opens, no_array}
 use Rattle.rule.proofs.FrontLaws.{access_unopened, access_word_at}
-use borrow.Author.Rules.{rules}
 use Rattle.rule.proofs.one_pass.access_end.Goals as goal
 
 pub overflow_add-first : goal.overflow_add-first
@@ -19,4 +16,4 @@ returns-in-Array c =
 
 pub returns-in_default : goal.returns-in_default
 returns-in_default c =
-    sym (access_unopened c.args.line.now c.skip_blanks-first.ensures (no_array c.args.line.now _ (λ e. other_kind (0 ∷ 1 ∷ 3 ∷ 4 ∷ 5 ∷ 6 ∷ []) c.kind_at.result Array c.in_default.keys2 tt (c.kind_at.ensures ∙ e))))
+    sym (access_unopened c.args.line.now c.skip_blanks-first.ensures (no_array c.args.line.now _ (λ e. c.in_default.not-Array (c.kind_at.ensures ∙ e))))

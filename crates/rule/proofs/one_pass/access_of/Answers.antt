@@ -1,6 +1,5 @@
 -- Word by word. Assumes nothing.
 use Rattle.rule.specs.Front.{access_of_word, access_told}
-use borrow.Author.Rules.{rules}
 use Rattle.rule.proofs.one_pass.access_of.Goals as goal
 
 pub returns-in-Allow : goal.returns-in-Allow

@@ -5,7 +5,6 @@ use Rattle.json_text.proofs.PlainLaws.{Plain, plain_string}
 use Rattle.rule.specs.Front.{access_from, access_before, access_told, access_of_word}
 use Rattle.rule.specs.declared.Word.{Word}
 use Rattle.rule.proofs.FrontLaws.{access_behind}
-use borrow.Author.Rules.{rules}
 use Rattle.rule.proofs.one_pass.access_word.Goals as goal
 
 pub returns-in_default : goal.returns-in_default

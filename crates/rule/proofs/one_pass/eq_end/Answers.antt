@@ -2,7 +2,6 @@
 use native.Mathlib.Omega.{arith}
 use mathlib.Core.Path.{sym, ◌∙◌}
 use Rattle.rule.proofs.OnePassLaws.{eq_to, eq_string, eq_read}
-use borrow.Author.Rules.{rules}
 use Rattle.rule.proofs.one_pass.eq_end.Goals as goal
 
 pub overflow_add-opens : goal.overflow_add-opens

@@ -3,7 +3,6 @@ use native.Mathlib.Omega.{arith}
 use mathlib.Core.Path.{sym, ◌∙◌}
 use Rattle.json_text.proofs.PlainLaws.{Plain, plain_string}
 use Rattle.rule.proofs.OnePassLaws.{all_users}
-use borrow.Author.Rules.{rules}
 use Rattle.rule.proofs.one_pass.everyone_end.Goals as goal
 
 pub overflow_add-at : goal.overflow_add-at
@@ -34,4 +33,4 @@ overflow_add-result c =
 pub returns-in-All : goal.returns-in-All
 returns-in-All c =
     let found : Plain c.args.line.now c.args.at c.in-At.end = plain_string c.args.line.now c.args.at (sym c.plain_text.ensures ∙ c.in-At.is) in
-        all_users c.args.line.now c.args.allow c.args.at (found) (sym c.word_of.ensures ∙ c.in-All.is)
+    all_users c.args.line.now c.args.allow c.args.at (found) (sym c.word_of.ensures ∙ c.in-All.is)

@@ -2,7 +2,6 @@
 use mathlib.Core.Path.{sym, ◌∙◌}
 use Rattle.rule.specs.OnePass.{TopicsTo}
 use Rattle.rule.proofs.OnePassLaws.{answered, topics_tail}
-use borrow.Author.Rules.{rules}
 use Rattle.rule.proofs.one_pass.from_topics.Goals as goal
 
 pub returns : goal.returns

@@ -2,7 +2,6 @@
 use mathlib.Core.Path.{sym, ◌∙◌}
 use Rattle.rule.proofs.OnePassLaws.{rule_map, users_last, users_more}
 use Rattle.rule.proofs.FrontLaws.{users_to}
-use borrow.Author.Rules.{rules}
 use Rattle.rule.proofs.one_pass.from_users.Goals as goal
 
 pub returns-in-Comma : goal.returns-in-Comma

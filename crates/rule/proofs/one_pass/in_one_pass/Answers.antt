@@ -2,7 +2,6 @@
 use mathlib.Core.Path.{sym, ◌∙◌}
 use Rattle.rule.proofs.OnePassLaws.{rule_map}
 use Rattle.rule.proofs.FrontLaws.{access_to, access_rule}
-use borrow.Author.Rules.{rules}
 use Rattle.rule.proofs.one_pass.in_one_pass.Goals as goal
 
 pub returns : goal.returns

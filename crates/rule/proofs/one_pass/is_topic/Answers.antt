@@ -2,7 +2,6 @@
 use mathlib.Core.Path.{sym, ap, ◌∙◌}
 use mathlib.Core.Bool.{Bool, ◌||◌, or-true, or-false}
 use Rattle.rule.specs.Rule.{is_template}
-use borrow.Author.Rules.{rules}
 use Rattle.rule.proofs.one_pass.is_topic.Goals as goal
 
 pub returns-then-valid_filter : goal.returns-then-valid_filter

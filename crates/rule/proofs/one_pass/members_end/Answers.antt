@@ -1,19 +1,16 @@
 -- The loop's invariant: if members stand from `i` on up to a place, then the object's do, and their places come behind those found so far.
 -- The measure is what is left of the line. Assumes nothing.
-use Prim.Native.Nat.{ℕ, ◌+◌, ◌-◌}
+use Prim.Native.Nat.{◌+◌, ◌-◌}
 use native.Mathlib.Omega.{arith}
 use mathlib.Core.Path.{sym, subst, ◌∙◌}
-use lib.ListN.{length, take, drop}
-use borrow.Author.Tests.{not-false}
-use Rattle.json_text.specs.Json.{Members}
+use lib.ListN.{take, drop}
 use Rattle.json_text.specs.Access.{last_named}
 use Rattle.json_text.proofs.ScanLaws.{at_within}
 use Rattle.json_text.proofs.PlainLaws.{Plain, plain_string}
 use Rattle.rule.specs.OnePass.{PartTo}
 use Rattle.rule.specs.Members.{MembersTo, places_in, noted}
 use Rattle.rule.specs.declared.MemberPlaces.{MemberPlaces}
-use Rattle.rule.proofs.OnePassLaws.{answered, MemberAt, MembersFrom, member_read, member_forward, first_member, last_member, next_member}
-use borrow.Author.Rules.{rules}
+use Rattle.rule.proofs.OnePassLaws.{answered, MemberAt, member_read, member_forward, first_member, last_member, next_member}
 use Rattle.rule.proofs.one_pass.members_end.Goals as goal
 
 pub overflow_add-at : goal.overflow_add-at
@@ -67,7 +64,7 @@ returns-in-Close c =
     let named : Plain c.args.line.now c.loop-i.i c.in-At.end = plain_string c.args.line.now c.loop-i.i (sym c.plain_text.ensures ∙ c.in-At.is) in
     let here : MemberAt 6 c.args.line.now c.loop-i.i (take (c.in-At.end - (c.loop-i.i + 1)) (drop (c.loop-i.i + 1) c.args.line.now)) c.in-At-value_behind.p c.in-At-part_end.behind = member_read c.args.line.now c.loop-i.i (named) (sym c.value_behind.ensures ∙ c.in-At-value_behind.is)
     (answered (PartTo 6 c.args.line.now c.in-At-value_behind.p (c.in-At.end - (c.loop-i.i + 1))) c.in-At-part_end.is c.part_end.ensures) in
-        let m = here in
+    let m = here in
     subst (λ (x : MemberPlaces). MembersTo c.args.line.now c.args.at x c.in-Close.next) (sym c.with_member-found.ensures)
     (c.loop-i.invariant _ _ (last_member c.args.line.now m (sym c.separator.ensures ∙ c.in-Close.is)))
 
@@ -76,7 +73,7 @@ loop-i-smaller c =
     let named : Plain c.args.line.now c.loop-i.i c.in-At.end = plain_string c.args.line.now c.loop-i.i (sym c.plain_text.ensures ∙ c.in-At.is) in
     let here : MemberAt 6 c.args.line.now c.loop-i.i (take (c.in-At.end - (c.loop-i.i + 1)) (drop (c.loop-i.i + 1) c.args.line.now)) c.in-At-value_behind.p c.in-At-part_end.behind = member_read c.args.line.now c.loop-i.i (named) (sym c.value_behind.ensures ∙ c.in-At-value_behind.is)
     (answered (PartTo 6 c.args.line.now c.in-At-value_behind.p (c.in-At.end - (c.loop-i.i + 1))) c.in-At-part_end.is c.part_end.ensures) in
-        omega (arith, member_forward c.args.line.now (here) (sym c.separator.ensures ∙ c.in-Comma.is))
+    omega (arith, member_forward c.args.line.now (here) (sym c.separator.ensures ∙ c.in-Comma.is))
 
 pub loop-i-preserved : goal.loop-i-preserved
 unfolding places_in noted last_named
@@ -84,7 +81,7 @@ loop-i-preserved c =
     let named : Plain c.args.line.now c.loop-i.i c.in-At.end = plain_string c.args.line.now c.loop-i.i (sym c.plain_text.ensures ∙ c.in-At.is) in
     let here : MemberAt 6 c.args.line.now c.loop-i.i (take (c.in-At.end - (c.loop-i.i + 1)) (drop (c.loop-i.i + 1) c.args.line.now)) c.in-At-value_behind.p c.in-At-part_end.behind = member_read c.args.line.now c.loop-i.i (named) (sym c.value_behind.ensures ∙ c.in-At-value_behind.is)
     (answered (PartTo 6 c.args.line.now c.in-At-value_behind.p (c.in-At.end - (c.loop-i.i + 1))) c.in-At-part_end.is c.part_end.ensures) in
-        let m = here in
+    let m = here in
     λ rest end f.
     subst (λ (x : MemberPlaces). MembersTo c.args.line.now c.args.at (places_in rest x) end) (sym c.with_member-found.ensures)
     (c.loop-i.invariant _ end (next_member c.args.line.now m (sym c.separator.ensures ∙ c.in-Comma.is) f))

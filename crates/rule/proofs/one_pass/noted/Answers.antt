@@ -2,7 +2,6 @@
 use mathlib.Core.Path.{sym, ap, ◌∙◌}
 use mathlib.Core.Bool.{Bool, cond}
 use Rattle.json_text.specs.declared.Place.TheVariants.{At}
-use borrow.Author.Rules.{rules}
 use Rattle.rule.proofs.one_pass.noted.Goals as goal
 
 pub returns-then-same : goal.returns-then-same

@@ -1,7 +1,6 @@
 -- By the step over the value. Assumes nothing.
 use mathlib.Core.Path.{sym, ◌∙◌}
 use Rattle.rule.proofs.OnePassLaws.{part_read}
-use borrow.Author.Rules.{rules}
 use Rattle.rule.proofs.one_pass.part_end.Goals as goal
 
 pub returns-else-c-gt-TEXT : goal.returns-else-c-gt-TEXT

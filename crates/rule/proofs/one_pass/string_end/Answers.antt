@@ -3,7 +3,6 @@ use native.Mathlib.Omega.{arith}
 use mathlib.Core.Path.{sym, ◌∙◌}
 use Rattle.json_text.proofs.PlainLaws.{Plain, plain_string}
 use Rattle.rule.proofs.OnePassLaws.{plain_topic}
-use borrow.Author.Rules.{rules}
 use Rattle.rule.proofs.one_pass.string_end.Goals as goal
 
 pub overflow_add-at : goal.overflow_add-at
@@ -44,4 +43,4 @@ overflow_add-result c =
 pub returns-then-is_topic : goal.returns-then-is_topic
 returns-then-is_topic c =
     let found : Plain c.args.line.now c.args.at c.in-At.end = plain_string c.args.line.now c.args.at (sym c.plain_text.ensures ∙ c.in-At.is) in
-        plain_topic c.args.line.now c.args.at (found) c.if-end-at-gt-TEXT.false (sym c.is_topic.ensures ∙ c.if-is_topic.true)
+    plain_topic c.args.line.now c.args.at (found) c.if-end-at-gt-TEXT.false (sym c.is_topic.ensures ∙ c.if-is_topic.true)

@@ -1,14 +1,9 @@
 -- The loop's invariant: if topics, no more than may still come, stand from `i` on up to a place, then all topics do. The measure is how many
 -- may still come. Assumes nothing.
-use Prim.Native.Nat.{ℕ, ◌+◌, ◌-◌, ◌≤◌}
-use native.Mathlib.Omega.{arith}
-use mathlib.Core.Path.{sym, ◌∙◌}
-use Rattle.json_text.proofs.ScanLaws.{at_within}
+use Prim.Native.Nat.{ℕ, ◌-◌, ◌≤◌}
 use Rattle.rule.specs.Limits.{topics_limit}
-use Rattle.rule.specs.OnePass.{TopicTo, TopicsTo}
-use Rattle.rule.proofs.MemberLaws.{array_opens}
-use Rattle.rule.proofs.OnePassLaws.{answered, TopicsFrom, last_topic, next_topic, topics_read}
-use borrow.Author.Rules.{rules}
+use Rattle.rule.specs.OnePass.{TopicsTo}
+use Rattle.rule.proofs.OnePassLaws.{TopicsFrom}
 use Rattle.rule.proofs.one_pass.topics_end.Given as goal
 
 abbrev pub invariant-loop-n : goal.invariant-loop-n

@@ -1,13 +1,9 @@
 -- By the kind of what stands there: the word `all` is read where it is, an object's members are passed over once. Assumes nothing.
 use mathlib.Core.Path.{sym, ap, ◌∙◌}
-use mathlib.Core.List.{[], ◌∷◌}
-use Rattle.json_text.specs.declared.Kind.TheVariants.{Text, Object}
 use Rattle.rule.specs.Members.{MembersTo, UsersTo}
 use Rattle.rule.specs.Front.{users_before}
-use Rattle.rule.proofs.MemberLaws.{other_kind}
 use Rattle.rule.proofs.OnePassLaws.{members_answered, users_answered}
 use Rattle.rule.proofs.FrontLaws.{users_members, users_from, users_neither}
-use borrow.Author.Rules.{rules}
 use Rattle.rule.proofs.one_pass.users_end.Goals as goal
 
 pub returns-in-Users : goal.returns-in-Users
@@ -31,5 +27,5 @@ returns-in-Places c =
 
 pub returns-in_default : goal.returns-in_default
 returns-in_default c =
-    sym (users_neither c.args.line.now c.args.allow c.args.at (λ e. other_kind (0 ∷ 2 ∷ 4 ∷ 5 ∷ 6 ∷ []) c.kind_at.result Text c.in_default.keys3 tt (c.kind_at.ensures ∙ e))
-    (λ e. other_kind (0 ∷ 2 ∷ 4 ∷ 5 ∷ 6 ∷ []) c.kind_at.result Object c.in_default.keys3 tt (c.kind_at.ensures ∙ e)))
+    sym (users_neither c.args.line.now c.args.allow c.args.at (λ e. c.in_default.not-Text (c.kind_at.ensures ∙ e))
+    (λ e. c.in_default.not-Object (c.kind_at.ensures ∙ e)))

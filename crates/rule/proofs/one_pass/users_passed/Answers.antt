@@ -8,7 +8,6 @@ use Rattle.rule.specs.Limits.{text_limit}
 use Rattle.rule.specs.Places.{users_of_place}
 use Rattle.rule.specs.Front.{users_before}
 use Rattle.rule.proofs.FrontLaws.{users_none, users_long, users_within_lem}
-use borrow.Author.Rules.{rules}
 use Rattle.rule.proofs.one_pass.users_passed.Goals as goal
 
 pub returns-in_default : goal.returns-in_default

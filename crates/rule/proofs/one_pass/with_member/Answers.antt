@@ -1,7 +1,5 @@
 -- Member by member. Assumes nothing.
 use Rattle.rule.specs.Members.{noted}
-use Rattle.rule.specs.declared.MemberPlaces.{MemberPlaces}
-use borrow.Author.Rules.{rules}
 use Rattle.rule.proofs.one_pass.with_member.Goals as goal
 
 pub returns : goal.returns

@@ -1,7 +1,6 @@
 -- The text's fault is that of the count. Assumes nothing.
 use mathlib.Core.Path.{sym, ap}
 use lib.ListN.{length}
-use borrow.Author.Rules.{rules}
 use Rattle.json_text.specs.Lines.{lines}
 use Rattle.rule.specs.RuleText.{text_fault}
 use Rattle.rule.specs.Places.{text_answer}

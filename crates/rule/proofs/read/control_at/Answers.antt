@@ -1,7 +1,6 @@
 -- By the place, and the word there. Assumes nothing.
 use mathlib.Core.Path.{sym, ap, ◌∙◌}
 use Rattle.rule.specs.Places.{control_here, control_of_word}
-use borrow.Author.Rules.{rules}
 use Rattle.rule.proofs.read.control_at.Goals as goal
 
 pub returns-in-At : goal.returns-in-At

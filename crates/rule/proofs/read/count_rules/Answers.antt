@@ -4,10 +4,9 @@ use Prim.Native.Nat.{◌-◌, ◌≤◌}
 use mathlib.Core.Path.{◌≡◌, refl, ◌∙◌}
 use native.Mathlib.Omega.{arith}
 use lib.ListN.{length, take, drop}
-use borrow.Author.Rules.{rules}
 use Rattle.json_text.specs.Lines.{line_at}
 use Rattle.json_text.proofs.LineLaws.{line_within, line_part}
-use Rattle.rule.proofs.ReadLaws.{Passed, read_more, read_over, read_faulty, read_all}
+use Rattle.rule.proofs.ReadLaws.{read_more, read_over, read_faulty, read_all}
 use Rattle.rule.proofs.read.count_rules.Goals as goal
 
 pub loop-at-init : goal.loop-at-init
@@ -30,7 +29,7 @@ faulty_line-requires c =
 pub returns-in-Refused : goal.returns-in-Refused
 returns-in-Refused c =
     let line : take (c.line_end-end.result - c.loop-at.at) (drop c.loop-at.at c.args.text.now) ≡ line_at c.args.text.now c.loop-at.at = rw c.line_end-end.ensures (line_part c.args.text.now c.loop-at.at) in
-        c.faulty_line.ensures
+    c.faulty_line.ensures
     ∙ read_faulty _ _ _ c.loop-at.invariant c.loop-at-test.true (line) c.read_rule.ensures c.in-Refused.is
 
 pub overflow_add-at : goal.overflow_add-at
@@ -49,7 +48,7 @@ loop-at-smaller c =
 pub loop-at-preserved : goal.loop-at-preserved
 loop-at-preserved c =
     let line : take (c.line_end-end.result - c.loop-at.at) (drop c.loop-at.at c.args.text.now) ≡ line_at c.args.text.now c.loop-at.at = rw c.line_end-end.ensures (line_part c.args.text.now c.loop-at.at) in
-        read_more _ _ _ _ c.loop-at.invariant c.loop-at-test.true c.if-n-eq-LINES.false c.line_end-end.ensures (line) c.read_rule.ensures c.in-Rule.is
+    read_more _ _ _ _ c.loop-at.invariant c.loop-at-test.true c.if-n-eq-LINES.false c.line_end-end.ensures (line) c.read_rule.ensures c.in-Rule.is
 
 pub returns : goal.returns
 returns c =

@@ -1,13 +1,8 @@
 -- The loop's invariant: the `n` lines before `at` are rules, so that the first fault from `at` on is the text's. The measure is what is left
 -- of the text. Assumes nothing.
-use Prim.Native.Nat.{◌-◌, ◌≤◌}
-use mathlib.Core.Path.{◌≡◌, refl, ◌∙◌}
-use native.Mathlib.Omega.{arith}
-use lib.ListN.{length, take, drop}
-use borrow.Author.Rules.{rules}
-use Rattle.json_text.specs.Lines.{line_at}
-use Rattle.json_text.proofs.LineLaws.{line_within, line_part}
-use Rattle.rule.proofs.ReadLaws.{Passed, read_more, read_over, read_faulty, read_all}
+use Prim.Native.Nat.{◌-◌}
+use lib.ListN.{length}
+use Rattle.rule.proofs.ReadLaws.{Passed}
 use Rattle.rule.proofs.read.count_rules.Given as goal
 
 abbrev pub invariant-loop-at : goal.invariant-loop-at

@@ -1,7 +1,6 @@
 -- By whether an element stands there. Assumes nothing.
 use mathlib.Core.Path.{sym, ap, ◌∙◌}
 use Rattle.rule.specs.Places.{next_part}
-use borrow.Author.Rules.{rules}
 use Rattle.rule.proofs.read.next_part.Goals as goal
 
 pub returns-in-At : goal.returns-in-At

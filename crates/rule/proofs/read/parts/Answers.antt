@@ -2,7 +2,6 @@
 use mathlib.Core.Path.{ap, ◌∙◌}
 use Rattle.json_text.specs.Access.{first_item}
 use Rattle.rule.specs.Places.{next_part, parts_here}
-use borrow.Author.Rules.{rules}
 use Rattle.rule.proofs.read.parts.Goals as goal
 
 pub returns : goal.returns

@@ -5,7 +5,6 @@ use Rattle.rule.specs.Limits.{text_limit}
 use Rattle.rule.specs.OnePass.{IsRule}
 use Rattle.rule.proofs.RuleLaws.{read_long, read_invalid, read_valid}
 use Rattle.rule.proofs.OnePassLaws.{rule_answered}
-use borrow.Author.Rules.{rules}
 use Rattle.rule.proofs.read.read_rule.Goals as goal
 
 pub returns-then-line-gt-LINE : goal.returns-then-line-gt-LINE

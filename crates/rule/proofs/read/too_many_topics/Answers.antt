@@ -1,7 +1,6 @@
 -- By the place, and the count there. Assumes nothing.
 use mathlib.Core.Path.{sym, ap, ◌∙◌}
 use Rattle.rule.specs.Places.{too_many, over_topics}
-use borrow.Author.Rules.{rules}
 use Rattle.rule.proofs.read.too_many_topics.Goals as goal
 
 pub returns-in_default : goal.returns-in_default

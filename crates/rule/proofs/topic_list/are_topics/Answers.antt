@@ -1,9 +1,8 @@
 -- The loop's invariant: what the elements left come to is what all come to. The measure is the turns that are left. Assumes nothing.
-use mathlib.Core.Path.{◌≡◌, refl, sym, ap, ◌∙◌}
+use mathlib.Core.Path.{refl, sym, ap, ◌∙◌}
 use Prim.Native.Nat.{◌-◌}
 use Rattle.rule.proofs.TopicLaws.{good_topic, topics_end, topics_none, topics_next}
 use Rattle.rule.specs.Places.{is_topic, are_topics, topics_from}
-use borrow.Author.Rules.{rules}
 use Rattle.rule.proofs.topic_list.are_topics.Goals as goal
 
 pub loop-turns-init : goal.loop-turns-init
@@ -24,7 +23,7 @@ returns-in-Bad c =
 pub loop-turns-preserved : goal.loop-turns-preserved
 loop-turns-preserved c =
     ap (topics_from (c.loop-turns.turns - 1) c.args.line.now) c.next_item-next.ensures
-    ∙ (sym (topics_next c.loop-turns.turns c.args.line.now _ c.loop-turns-test.true (ap is_topic (sym c.topic_at.ensures) ∙ good_topic c.topic_at.result c.in_default.keys2))
+    ∙ (sym (topics_next c.loop-turns.turns c.args.line.now _ c.loop-turns-test.true (ap is_topic (sym c.topic_at.ensures) ∙ good_topic c.topic_at.result c.in_default.not-Bad))
     ∙ (ap (topics_from c.loop-turns.turns c.args.line.now) (sym c.in-At.is) ∙ c.loop-turns.invariant))
 
 pub returns : goal.returns

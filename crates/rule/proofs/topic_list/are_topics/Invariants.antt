@@ -1,9 +1,6 @@
 -- The loop's invariant: what the elements left come to is what all come to. The measure is the turns that are left. Assumes nothing.
-use mathlib.Core.Path.{◌≡◌, refl, sym, ap, ◌∙◌}
-use Prim.Native.Nat.{◌-◌}
-use Rattle.rule.proofs.TopicLaws.{good_topic, topics_end, topics_none, topics_next}
-use Rattle.rule.specs.Places.{is_topic, are_topics, topics_from}
-use borrow.Author.Rules.{rules}
+use mathlib.Core.Path.{◌≡◌}
+use Rattle.rule.specs.Places.{are_topics, topics_from}
 use Rattle.rule.proofs.topic_list.are_topics.Given as goal
 
 abbrev pub invariant-loop-turns : goal.invariant-loop-turns

@@ -2,7 +2,6 @@
 use mathlib.Core.Path.{sym, ◌∙◌}
 use Rattle.json_text.specs.Strings.{string_at}
 use Rattle.rule.proofs.TopicLaws.{told, eq_by, eq_long, eq_none}
-use borrow.Author.Rules.{rules}
 use Rattle.rule.proofs.topic_list.decoded_eq.Goals as goal
 
 pub slice_bounds-text-end : goal.slice_bounds-text-end

@@ -4,7 +4,6 @@ use mathlib.Core.Bool.{◌||◌}
 use Rattle.text.specs.Ascii.{ascii}
 use Rattle.text.specs.Text.{contains}
 use Rattle.rule.specs.Rule.{is_template}
-use borrow.Author.Rules.{rules}
 use Rattle.rule.proofs.topic_list.has_mark.Goals as goal
 
 pub returns-then-contains : goal.returns-then-contains

@@ -1,10 +1,6 @@
 -- The loop's invariant: the text from `i` on is a template if the whole is. The measure is what is left of the text. Assumes nothing.
-use Prim.Native.Nat.{◌-◌}
-use mathlib.Core.Path.{◌≡◌, refl, sym, ◌∙◌}
-use lib.ListN.{length, drop}
-use Rattle.rule.specs.Rule.{is_template}
+use mathlib.Core.Path.{refl, sym, ◌∙◌}
 use Rattle.rule.proofs.TopicLaws.{template_onward, template_end}
-use borrow.Author.Rules.{rules}
 use Rattle.rule.proofs.topic_list.is_template.Goals as goal
 
 pub loop-i-init : goal.loop-i-init

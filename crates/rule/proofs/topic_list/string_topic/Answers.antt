@@ -3,7 +3,6 @@ use native.Mathlib.Omega.{arith}
 use mathlib.Core.Path.{refl, sym, ◌∙◌}
 use Rattle.json_text.proofs.PlainLaws.{Plain, plain_string}
 use Rattle.rule.proofs.TopicLaws.{plain-told, plain_string_over, string_by}
-use borrow.Author.Rules.{rules}
 use Rattle.rule.proofs.topic_list.string_topic.Goals as goal
 
 pub overflow_add-at : goal.overflow_add-at
@@ -19,7 +18,7 @@ overflow_sub-end c =
 pub returns-then-end-at-gt-TEXT : goal.returns-then-end-at-gt-TEXT
 returns-then-end-at-gt-TEXT c =
     let found : Plain c.args.line.now c.args.at c.in-At.end = plain_string c.args.line.now c.args.at (sym c.plain_text.ensures ∙ c.in-At.is) in
-        sym (plain_string_over c.args.line.now c.args.at (found) c.if-end-at-gt-TEXT.true)
+    sym (plain_string_over c.args.line.now c.args.at (found) c.if-end-at-gt-TEXT.true)
 
 pub overflow_add-at-2 : goal.overflow_add-at-2
 overflow_add-at-2 c =
@@ -44,7 +43,7 @@ slice_bounds-is_template-end c =
 pub returns-then-is_template : goal.returns-then-is_template
 returns-then-is_template c =
     let found : Plain c.args.line.now c.args.at c.in-At.end = plain_string c.args.line.now c.args.at (sym c.plain_text.ensures ∙ c.in-At.is) in
-        sym (string_by c.args.line.now c.args.at (plain-told c.args.line.now c.args.at (found) c.if-end-at-gt-TEXT.false) (sym c.is_template.ensures ∙ c.if-is_template.true) refl)
+    sym (string_by c.args.line.now c.args.at (plain-told c.args.line.now c.args.at (found) c.if-end-at-gt-TEXT.false) (sym c.is_template.ensures ∙ c.if-is_template.true) refl)
 
 pub overflow_add-at-3 : goal.overflow_add-at-3
 overflow_add-at-3 c =
@@ -69,9 +68,9 @@ slice_bounds-valid_filter-end c =
 pub returns-then-valid_filter : goal.returns-then-valid_filter
 returns-then-valid_filter c =
     let found : Plain c.args.line.now c.args.at c.in-At.end = plain_string c.args.line.now c.args.at (sym c.plain_text.ensures ∙ c.in-At.is) in
-        sym (string_by c.args.line.now c.args.at (plain-told c.args.line.now c.args.at (found) c.if-end-at-gt-TEXT.false) (sym c.is_template.ensures ∙ c.if-is_template.false) (sym c.valid_filter.ensures ∙ c.if-valid_filter.true))
+    sym (string_by c.args.line.now c.args.at (plain-told c.args.line.now c.args.at (found) c.if-end-at-gt-TEXT.false) (sym c.is_template.ensures ∙ c.if-is_template.false) (sym c.valid_filter.ensures ∙ c.if-valid_filter.true))
 
 pub returns : goal.returns
 returns c =
     let found : Plain c.args.line.now c.args.at c.in-At.end = plain_string c.args.line.now c.args.at (sym c.plain_text.ensures ∙ c.in-At.is) in
-        sym (string_by c.args.line.now c.args.at (plain-told c.args.line.now c.args.at (found) c.if-end-at-gt-TEXT.false) (sym c.is_template.ensures ∙ c.if-is_template.false) (sym c.valid_filter.ensures ∙ c.if-valid_filter.false))
+    sym (string_by c.args.line.now c.args.at (plain-told c.args.line.now c.args.at (found) c.if-end-at-gt-TEXT.false) (sym c.is_template.ensures ∙ c.if-is_template.false) (sym c.valid_filter.ensures ∙ c.if-valid_filter.false))

@@ -1,10 +1,6 @@
 -- Each return has the kind of the value, and of an object its member. Assumes nothing.
 use mathlib.Core.Path.{sym, ◌∙◌}
-use mathlib.Core.List.{[], ◌∷◌}
-use Rattle.rule.proofs.MemberLaws.{other_kind}
 use Rattle.rule.proofs.TopicLaws.{topic_string, topic_eq, topic_no_eq, topic_other}
-use Rattle.json_text.specs.declared.Kind.TheVariants.{Text, Object}
-use borrow.Author.Rules.{rules}
 use Rattle.rule.proofs.topic_list.topic_at.Goals as goal
 
 pub returns-in-Text : goal.returns-in-Text
@@ -24,5 +20,5 @@ returns-in-Nowhere c =
 
 pub returns-in_default : goal.returns-in_default
 returns-in_default c =
-    sym (topic_other c.args.line.now c.args.at (λ e. other_kind (0 ∷ 2 ∷ 4 ∷ 5 ∷ 6 ∷ []) c.kind_at.result Text c.in_default.keys3 tt (c.kind_at.ensures ∙ e))
-    (λ e. other_kind (0 ∷ 2 ∷ 4 ∷ 5 ∷ 6 ∷ []) c.kind_at.result Object c.in_default.keys3 tt (c.kind_at.ensures ∙ e)))
+    sym (topic_other c.args.line.now c.args.at (λ e. c.in_default.not-Text (c.kind_at.ensures ∙ e))
+    (λ e. c.in_default.not-Object (c.kind_at.ensures ∙ e)))

@@ -1,11 +1,7 @@
 -- Each return has the kind of the value. Assumes nothing.
 use mathlib.Core.Path.{sym, ap, ◌∙◌}
-use mathlib.Core.List.{[], ◌∷◌}
-use Rattle.rule.proofs.MemberLaws.{other_kind}
 use Rattle.rule.proofs.TopicLaws.{topics_array, topics_other}
 use Rattle.rule.specs.Places.{are_topics}
-use Rattle.json_text.specs.declared.Kind.TheVariants.{Array}
-use borrow.Author.Rules.{rules}
 use Rattle.rule.proofs.topic_list.topics_at.Goals as goal
 
 pub returns-in-Array : goal.returns-in-Array
@@ -14,4 +10,4 @@ returns-in-Array c =
 
 pub returns-in_default : goal.returns-in_default
 returns-in_default c =
-    sym (topics_other c.args.line.now c.args.at (λ e. other_kind (0 ∷ 1 ∷ 3 ∷ 4 ∷ 5 ∷ 6 ∷ []) c.kind_at.result Array c.in_default.keys2 tt (c.kind_at.ensures ∙ e)))
+    sym (topics_other c.args.line.now c.args.at (λ e. c.in_default.not-Array (c.kind_at.ensures ∙ e)))

@@ -1,7 +1,6 @@
 -- Word by word. Assumes nothing.
 use mathlib.Core.Path.{sym, ap}
 use Rattle.rule.specs.Places.{control_of_word}
-use borrow.Author.Rules.{rules}
 use Rattle.rule.proofs.words.control_of.Goals as goal
 
 pub returns-in-All : goal.returns-in-All

@@ -1,12 +1,8 @@
 -- The loop's invariant: what is left of the text is what is left of the word exactly where the text is the word. The measure is what is
 -- left of the text. Assumes nothing.
-use mathlib.Core.Path.{◌≡◌, refl, sym, ◌∙◌}
+use mathlib.Core.Path.{refl, sym, ◌∙◌}
 use native.Mathlib.Omega.{arith}
-use Prim.Native.Nat.{◌-◌, ◌≤◌}
-use lib.ListN.{length, drop}
-use Rattle.rule.specs.Rule.{is_word}
 use Rattle.rule.proofs.WordLaws.{word_lengths, word_agree, word_differ, word_end}
-use borrow.Author.Rules.{rules}
 use Rattle.rule.proofs.words.is_word.Goals as goal
 
 pub returns-then-text-word : goal.returns-then-text-word

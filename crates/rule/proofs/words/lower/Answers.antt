@@ -3,7 +3,6 @@ use mathlib.Core.Path.{refl, sym}
 use native.Mathlib.Omega.{arith}
 use borrow.Author.Tests.{le-leb, lt-leb}
 use Rattle.rule.proofs.WordLaws.{lower_by}
-use borrow.Author.Rules.{rules}
 use Rattle.rule.proofs.words.lower.Goals as goal
 
 pub returns-in-65-to-90 : goal.returns-in-65-to-90

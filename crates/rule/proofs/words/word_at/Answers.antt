@@ -6,7 +6,6 @@ use Rattle.json_text.specs.Strings.{string_at}
 use Rattle.rule.specs.Places.{word_of}
 use Rattle.rule.proofs.WordLaws.{word_long, word_nowhere, word_here}
 use Rattle.rule.proofs.DecodeLaws.{decoded_length, decoded_over, decoded_none}
-use borrow.Author.Rules.{rules}
 use Rattle.rule.proofs.words.word_at.Goals as goal
 
 pub slice_bounds-text-end : goal.slice_bounds-text-end

@@ -1,7 +1,6 @@
 -- Each return has the tests of `word_of` that led there. Assumes nothing.
 use mathlib.Core.Path.{refl, sym, ◌∙◌}
 use Rattle.rule.proofs.WordLaws.{word_by}
-use borrow.Author.Rules.{rules}
 use Rattle.rule.proofs.words.word_of.Goals as goal
 
 pub returns-then-is_word : goal.returns-then-is_word

@@ -3,7 +3,6 @@ use Prim.Native.Nat.{◌<◌}
 use mathlib.Core.Bool.{true, false}
 use mathlib.Core.Path.{◌≡◌, refl, sym, ap, ◌∙◌}
 use native.Mathlib.Omega.{arith}
-use borrow.Author.Tests.{not-true, not-false}
 use borrow.Author.Rules.{rules}
 use Rattle.topic.specs.Topic.{valid_filter}
 use Rattle.table.specs.Bytes.{number}
@@ -19,22 +18,22 @@ returns-then-bound-number_at c =
 pub returns-then-not-padded : goal.returns-then-not-padded
 returns-then-not-padded c =
     let below : number c.args.row.now < c.args.bound = omega (arith, c.number_at.ensures) in
-        let rule = below in
-    filter_tests {text = false} c.args.bound c.args.row.now rule c.number_at-2.ensures (sym (not-true c.padded.result c.if-not-padded.true) ∙ c.padded.ensures) refl refl
+    let rule = below in
+    filter_tests {text = false} c.args.bound c.args.row.now rule c.number_at-2.ensures (sym c.if-not-padded.true ∙ c.padded.ensures) refl refl
 
 pub returns-then-not-padded-2 : goal.returns-then-not-padded-2
 returns-then-not-padded-2 c =
     let below : number c.args.row.now < c.args.bound = omega (arith, c.number_at.ensures) in
-    let text_padded : true ≡ padded 6 text_limit c.number_at-2.result c.args.row.now = sym (not-false c.padded.result c.if-not-padded.false) ∙ c.padded.ensures in
-        let rule = below in
-    let owner = sym (not-true c.padded-2.result c.if-not-padded-2.true) ∙ c.padded-2.ensures in
+    let text_padded : true ≡ padded 6 text_limit c.number_at-2.result c.args.row.now = sym c.if-not-padded.false ∙ c.padded.ensures in
+    let rule = below in
+    let owner = sym c.if-not-padded-2.true ∙ c.padded-2.ensures in
     filter_tests {text = true} {owner = false} c.args.bound c.args.row.now rule c.number_at-2.ensures (text_padded) c.number_at-3.ensures owner
 
 pub returns : goal.returns
 returns c =
     let below : number c.args.row.now < c.args.bound = omega (arith, c.number_at.ensures) in
-    let text_padded : true ≡ padded 6 text_limit c.number_at-2.result c.args.row.now = sym (not-false c.padded.result c.if-not-padded.false) ∙ c.padded.ensures in
-        let rule = below in
-    let owner = sym (not-false c.padded-2.result c.if-not-padded-2.false) ∙ c.padded-2.ensures in
+    let text_padded : true ≡ padded 6 text_limit c.number_at-2.result c.args.row.now = sym c.if-not-padded.false ∙ c.padded.ensures in
+    let rule = below in
+    let owner = sym c.if-not-padded-2.false ∙ c.padded-2.ensures in
     let all = filter_tests {text = true} {owner = true} c.args.bound c.args.row.now rule c.number_at-2.ensures (text_padded) c.number_at-3.ensures owner in
     c.valid_filter.ensures ∙ (ap valid_filter c.filter_text.ensures ∙ all)

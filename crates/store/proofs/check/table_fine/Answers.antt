@@ -6,7 +6,6 @@ use mathlib.Core.Bool.{true, false}
 use native.Mathlib.Nat.{sub-zero, mul-le-mul_right, add-sub_cancel_left}
 use native.Mathlib.Omega.{arith}
 use borrow.Author.Rules.{rules}
-use borrow.Author.Tests.{not-true, not-false}
 use borrow.Author.Rules.{part_to_end}
 use lib.ListN.{length, drop}
 use Rattle.table.specs.Bytes.{zeros, rows}
@@ -26,21 +25,21 @@ pub returns-then-not-row_fine : goal.returns-then-not-row_fine
 returns-then-not-row_fine c =
     let told = rw add-sub_cancel_left at c.row_fine.ensures in
     let bad = bad_here c.args.owned c.args.bound c.row_size-size.result c.args.used c.loop-i.i c.loop-i.at c.args.part.now c.loop-i-test.true (omega arith) in
-    table_bad c.args.owned c.args.bound c.args.used c.args.part.now c.row_size-size.ensures (c.loop-i.invariant.1.1.1 ∙ bad (sym told ∙ not-true c.row_fine.result c.if-not-row_fine.true))
+    table_bad c.args.owned c.args.bound c.args.used c.args.part.now c.row_size-size.ensures (c.loop-i.invariant.1.1.1 ∙ bad (sym told ∙ c.if-not-row_fine.true))
 
 pub loop-i-preserved : goal.loop-i-preserved
 loop-i-preserved c =
     let told = rw add-sub_cancel_left at c.row_fine.ensures in
     let past = bad_past c.args.owned c.args.bound c.row_size-size.result c.args.used c.loop-i.i c.loop-i.at c.args.part.now c.loop-i-test.true (omega arith) in
-    (omega arith, (omega arith, (omega arith, c.loop-i.invariant.1.1.1 ∙ past (sym told ∙ not-false c.row_fine.result c.if-not-row_fine.false))))
+    (omega arith, (omega arith, (omega arith, c.loop-i.invariant.1.1.1 ∙ past (sym told ∙ c.if-not-row_fine.false))))
 
 pub returns-then-not-all_zero : goal.returns-then-not-all_zero
 returns-then-not-all_zero c =
     let ended : (c.loop-i.at ≡ c.args.used * c.row_size-size.result) × (some_bad c.args.owned c.args.bound (rows c.row_size-size.result c.args.used c.args.part.now) ≡ false) = let all : c.loop-i.i ≡ c.args.used = omega arith in
     (rw all at c.loop-i.invariant.1.0, c.loop-i.invariant.1.1.1 ∙ bad_end c.args.owned c.args.bound _ c.args.used c.loop-i.i _ c.loop-i-test.false) in
     let padding : c.all_zero.result ≡ zeros (drop (c.args.used * c.row_size-size.result) c.args.part.now) = rw (part_to_end, (ended).0) at c.all_zero.ensures in
-        let end = ended in
-    let zero = sym (not-true c.all_zero.result c.if-not-all_zero.true) ∙ padding in
+    let end = ended in
+    let zero = sym c.if-not-all_zero.true ∙ padding in
     table_tests c.args.owned c.args.bound c.args.used c.args.part.now c.row_size-size.ensures {zero = false} (omega arith) end.1 zero refl
 
 pub returns : goal.returns
@@ -48,6 +47,6 @@ returns c =
     let ended : (c.loop-i.at ≡ c.args.used * c.row_size-size.result) × (some_bad c.args.owned c.args.bound (rows c.row_size-size.result c.args.used c.args.part.now) ≡ false) = let all : c.loop-i.i ≡ c.args.used = omega arith in
     (rw all at c.loop-i.invariant.1.0, c.loop-i.invariant.1.1.1 ∙ bad_end c.args.owned c.args.bound _ c.args.used c.loop-i.i _ c.loop-i-test.false) in
     let padding : c.all_zero.result ≡ zeros (drop (c.args.used * c.row_size-size.result) c.args.part.now) = rw (part_to_end, (ended).0) at c.all_zero.ensures in
-        let end = ended in
-    let zero = sym (not-false c.all_zero.result c.if-not-all_zero.false) ∙ padding in
+    let end = ended in
+    let zero = sym c.if-not-all_zero.false ∙ padding in
     table_tests c.args.owned c.args.bound c.args.used c.args.part.now c.row_size-size.ensures {zero = true} (omega arith) end.1 zero c.distinct.ensures

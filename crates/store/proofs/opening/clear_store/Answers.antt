@@ -70,7 +70,7 @@ unfolding store_length notes_at eqs_at filters_at
 returns c =
     let ordered : (c.filters_at-filters_at.result ≤ c.eqs_at-eqs_at.result) × (c.eqs_at-eqs_at.result ≤ c.notes_at-notes_at.result)
     × (c.notes_at-notes_at.result ≤ length c.args.store.now) = (omega arith, omega arith, omega arith) in
-        let o = ordered in
+    let o = ordered in
     let filters = cleared_on c.filters_at-filters_at.result c.eqs_at-eqs_at.result c.args.store.now o.0 (omega arith) c.clear.ensures c.clear_table.ensures in
     let eqs = cleared_on c.eqs_at-eqs_at.result c.notes_at-notes_at.result c.args.store.now o.1 o.2 filters c.clear_table-2.ensures in
     let notes = cleared_on c.notes_at-notes_at.result (length c.args.store.now) c.args.store.now o.2 (omega arith) eqs c.clear_table-3.ensures in

@@ -1,12 +1,7 @@
 -- `table::sorting::ascending` meets its contract. The loop's invariant: `i` is from 1 to `used`, and up to before `i` each number is
 -- a used row's that comes behind the row of the number before. The measure is what is left of `used`. Assumes nothing.
 use Prim.Native.Nat.{ℕ, ◌-◌, ◌≤◌, ◌<◌}
-use mathlib.Core.Path.{sym}
-use native.Mathlib.Omega.{arith}
-use borrow.Author.Count.{below_more}
-use borrow.Author.Tests.{not-false}
-use Rattle.table.proofs.OrderLaws.{Ascends, ascending_distinct}
-use borrow.Author.Rules.{rules}
+use Rattle.table.proofs.OrderLaws.{Ascends}
 use Rattle.table.proofs.sorting.ascending.Given as goal
 
 abbrev pub invariant-loop-i : goal.invariant-loop-i

@@ -1,12 +1,10 @@
 -- `table::sorting::merge` meets its contract. The loop's invariant: `i` and `j` are within their runs, what was written is what was
 -- taken, and the numbers are as many as at first. The measure is what is left to write. Assumes nothing.
-use Prim.Native.Nat.{◌+◌, ◌-◌, ◌≤◌}
-use mathlib.Core.Path.{◌≡◌, ap}
-use mathlib.Core.Logic.{⊎_elim}
+use mathlib.Core.Path.{ap}
 use native.Mathlib.Omega.{arith}
 use lib.ListN.{length, length-set}
-use borrow.Author.Rules.{rules}
 use Rattle.table.proofs.sorting.merge.Goals as goal
+use Rattle.table.proofs.sorting.merge.Goals.{then-second_first, else-second_first}
 
 pub bounds-from-j : goal.bounds-from-j
 bounds-from-j c =
@@ -18,7 +16,7 @@ bounds-from-i c =
 
 pub loop-k-preserved : goal.loop-k-preserved
 loop-k-preserved c =
-    ⊎_elim
-    (λ w. let fits = c.second_first.ensures.j_lt_end w.0.taken in (omega arith, (omega arith, (omega arith, (omega arith, omega (arith, simp length-set at (ap length w.2)))))))
-    (λ w. let fits = c.second_first.ensures.i_lt_middle w.0.left in (omega arith, (omega arith, (omega arith, (omega arith, omega (arith, simp length-set at (ap length w.2)))))))
-    c.if-second_first.branch
+    elim c.if-second_first.branch [
+      | then-second_first w ↦ let fits = c.second_first.ensures.j_lt_end w.if-second_first.true in (omega arith, (omega arith, (omega arith, (omega arith, omega (arith, simp length-set at (ap length w.to-is))))))
+      | else-second_first w ↦ let fits = c.second_first.ensures.i_lt_middle w.if-second_first.false in (omega arith, (omega arith, (omega arith, (omega arith, omega (arith, simp length-set at (ap length w.to-is))))))
+    ]

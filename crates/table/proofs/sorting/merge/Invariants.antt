@@ -1,11 +1,8 @@
 -- `table::sorting::merge` meets its contract. The loop's invariant: `i` and `j` are within their runs, what was written is what was
 -- taken, and the numbers are as many as at first. The measure is what is left to write. Assumes nothing.
 use Prim.Native.Nat.{◌+◌, ◌-◌, ◌≤◌}
-use mathlib.Core.Path.{◌≡◌, ap}
-use mathlib.Core.Logic.{⊎_elim}
-use native.Mathlib.Omega.{arith}
-use lib.ListN.{length, length-set}
-use borrow.Author.Rules.{rules}
+use mathlib.Core.Path.{◌≡◌}
+use lib.ListN.{length}
 use Rattle.table.proofs.sorting.merge.Given as goal
 
 abbrev pub invariant-loop-k : goal.invariant-loop-k

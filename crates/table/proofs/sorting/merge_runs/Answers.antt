@@ -1,10 +1,6 @@
 -- `table::sorting::merge_runs` meets its contract. The loop's invariant: `start` is at most `used`, and the numbers are as many as at
 -- first. The measure is what is left of `used`. Assumes nothing.
-use Prim.Native.Nat.{◌-◌, ◌≤◌}
-use mathlib.Core.Path.{◌≡◌}
 use native.Mathlib.Omega.{arith}
-use lib.ListN.{length}
-use borrow.Author.Rules.{rules}
 use Rattle.table.proofs.sorting.merge_runs.Goals as goal
 
 pub loop-start-smaller : goal.loop-start-smaller

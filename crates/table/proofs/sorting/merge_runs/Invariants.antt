@@ -2,9 +2,7 @@
 -- first. The measure is what is left of `used`. Assumes nothing.
 use Prim.Native.Nat.{◌-◌, ◌≤◌}
 use mathlib.Core.Path.{◌≡◌}
-use native.Mathlib.Omega.{arith}
 use lib.ListN.{length}
-use borrow.Author.Rules.{rules}
 use Rattle.table.proofs.sorting.merge_runs.Given as goal
 
 abbrev pub invariant-loop-start : goal.invariant-loop-start

@@ -1,15 +1,9 @@
 -- `table::sorting::pairwise` meets its contract. The loop's invariant: `at` is at most the table's length, and the rows left from `at` on are
 -- distinct if and only if the first `used` are. The measure is what is left of `used`. Assumes nothing.
-use Prim.Native.Nat.{◌-◌, ◌≤◌}
-use mathlib.Core.Path.{◌≡◌, sym, ◌∙◌}
+use mathlib.Core.Path.{sym, ◌∙◌}
 use native.Mathlib.Nat.{sub-zero, add-sub_cancel_left}
 use native.Mathlib.Omega.{arith}
-use borrow.Author.Rules.{rules}
 use borrow.Author.Rules.{part_to_end}
-use lib.ListN.{length, drop}
-use Rattle.text.specs.Text.{same}
-use Rattle.table.specs.Table.{distinct}
-use Rattle.table.specs.Bytes.{rows}
 use Rattle.table.proofs.RowLaws.{distinct_twice, distinct_past, distinct_short, distinct_end}
 use Rattle.table.proofs.sorting.pairwise.Goals as goal
 

@@ -1,8 +1,6 @@
 -- `table::sorting::row` meets its contract: a used row lies in the table. Assumes nothing.
-use Prim.Native.Nat.{◌+◌, ◌*◌, ◌≤◌, ◌<◌}
 use native.Mathlib.Nat.{mul-le-mul_right, add-sub_cancel_left}
 use native.Mathlib.Omega.{arith}
-use borrow.Author.Rules.{rules}
 use Rattle.table.proofs.sorting.row.Goals as goal
 
 pub overflow_mul-at : goal.overflow_mul-at

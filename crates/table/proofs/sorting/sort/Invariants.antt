@@ -1,10 +1,8 @@
 -- `table::sorting::sort` meets its contract. The loop's invariant: the width is not 0, and the numbers are as many as at first.
 -- The measure is what the width lacks to `used`. Assumes nothing.
-use Prim.Native.Nat.{◌-◌, ◌≤◌, ◌<◌}
+use Prim.Native.Nat.{◌-◌, ◌<◌}
 use mathlib.Core.Path.{◌≡◌}
-use native.Mathlib.Omega.{arith}
 use lib.ListN.{length}
-use borrow.Author.Rules.{rules}
 use Rattle.table.proofs.sorting.sort.Given as goal
 
 abbrev pub invariant-loop-width : goal.invariant-loop-width

@@ -1,14 +1,13 @@
 -- `table::words::before` meets its contract. The loop's invariant: `i` is at most the number of whole words, the rows are
 -- equally long, and the words below `i` are alike. The measure is what is left of the whole words. Assumes nothing.
-use Prim.Native.Nat.{ℕ, ◌-◌, ◌*◌, ◌/◌, ◌≤◌, ◌<◌}
-use mathlib.Core.Path.{◌≡◌, sym, ap, ◌∙◌}
+use Prim.Native.Nat.{◌-◌}
+use mathlib.Core.Path.{sym, ap, ◌∙◌}
 use mathlib.Core.Bool.{true≢false}
 use native.Mathlib.Omega.{arith}
 use borrow.Author.Count.{below_none, below_more}
 use borrow.Author.Rules.{rules}
 use borrow.Author.Tests.{ltb-true}
-use lib.ListN.{length}
-use Rattle.table.specs.Order.{eight, word}
+use Rattle.table.specs.Order.{eight}
 use Rattle.table.proofs.OrderLaws.{word_whole, word_last}
 use Rattle.table.proofs.words.before.Goals as goal
 
@@ -33,14 +32,13 @@ returns-then-x-y c e =
     }
 
 pub loop-i-preserved : goal.loop-i-preserved
-loop-i-preserved c =
-    (
-      omega arith,
-      (
-        c.loop-i.invariant.1.0,
-        below_more _ _ c.loop-i.invariant.1.1 (word_whole c.loop-i.i c.args.a.now c.loop-i-test.true ∙ (cc) ∙ sym (word_whole c.loop-i.i c.args.b.now (omega arith))),
-      ),
-    )
+loop-i-preserved c = (
+  omega arith,
+  (
+    c.loop-i.invariant.1.0,
+    below_more _ _ c.loop-i.invariant.1.1 (word_whole c.loop-i.i c.args.a.now c.loop-i-test.true ∙ (cc) ∙ sym (word_whole c.loop-i.i c.args.b.now (omega arith))),
+  ),
+)
 
 pub returns : goal.returns
 returns c e =

@@ -1,15 +1,9 @@
 -- `table::words::before` meets its contract. The loop's invariant: `i` is at most the number of whole words, the rows are
 -- equally long, and the words below `i` are alike. The measure is what is left of the whole words. Assumes nothing.
-use Prim.Native.Nat.{ℕ, ◌-◌, ◌*◌, ◌/◌, ◌≤◌, ◌<◌}
-use mathlib.Core.Path.{◌≡◌, sym, ap, ◌∙◌}
-use mathlib.Core.Bool.{true≢false}
-use native.Mathlib.Omega.{arith}
-use borrow.Author.Count.{below_none, below_more}
-use borrow.Author.Rules.{rules}
-use borrow.Author.Tests.{ltb-true}
+use Prim.Native.Nat.{ℕ, ◌-◌, ◌/◌, ◌≤◌, ◌<◌}
+use mathlib.Core.Path.{◌≡◌}
 use lib.ListN.{length}
-use Rattle.table.specs.Order.{eight, word}
-use Rattle.table.proofs.OrderLaws.{word_whole, word_last}
+use Rattle.table.specs.Order.{word}
 use Rattle.table.proofs.words.before.Given as goal
 
 abbrev pub invariant-loop-i : goal.invariant-loop-i

@@ -1,7 +1,6 @@
 -- `table::words::differs` meets its contract: equal rows are equally long and have the same words. The loop's invariant: `i` is at most the
 -- number of whole words, and the rows are equally long. The measure is what is left of the whole words. Assumes nothing.
-use Prim.Native.Nat.{◌-◌, ◌*◌, ◌≤◌, ◌/◌}
-use mathlib.Core.Path.{◌≡◌, sym, ap, ◌∙◌}
+use mathlib.Core.Path.{sym, ap, ◌∙◌}
 use mathlib.Core.Bool.{true≢false}
 use native.Mathlib.Omega.{arith}
 use borrow.Author.Tests.{not-true, eqb-false}

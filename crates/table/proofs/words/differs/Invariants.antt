@@ -1,13 +1,8 @@
 -- `table::words::differs` meets its contract: equal rows are equally long and have the same words. The loop's invariant: `i` is at most the
 -- number of whole words, and the rows are equally long. The measure is what is left of the whole words. Assumes nothing.
-use Prim.Native.Nat.{◌-◌, ◌*◌, ◌≤◌, ◌/◌}
-use mathlib.Core.Path.{◌≡◌, sym, ap, ◌∙◌}
-use mathlib.Core.Bool.{true≢false}
-use native.Mathlib.Omega.{arith}
-use borrow.Author.Tests.{not-true, eqb-false}
+use Prim.Native.Nat.{◌-◌, ◌≤◌, ◌/◌}
+use mathlib.Core.Path.{◌≡◌}
 use lib.ListN.{length}
-use Rattle.table.specs.Order.{eight}
-use borrow.Author.Rules.{rules}
 use Rattle.table.proofs.words.differs.Given as goal
 
 abbrev pub invariant-loop-i : goal.invariant-loop-i

@@ -1,6 +1,5 @@
 -- `table::words::four` meets its contract: it is what its halves say. Assumes nothing.
 use native.Mathlib.Omega.{arith}
-use borrow.Author.Rules.{rules}
 use Rattle.table.specs.Order.{four}
 use Rattle.table.proofs.words.four.Goals as goal
 

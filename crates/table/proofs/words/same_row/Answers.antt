@@ -1,6 +1,5 @@
 -- `table::words::same_row` meets its contract: rows that differ in a word are not equal. Assumes nothing.
 use mathlib.Core.Path.{sym}
-use borrow.Author.Rules.{rules}
 use Rattle.text.proofs.Laws.{same_unequal}
 use Rattle.table.proofs.words.same_row.Goals as goal
 

@@ -2,11 +2,10 @@
 use mathlib.Core.Path.{refl, sym, ap, ap₂, ◌∙◌}
 use Prim.Native.Nat.{◌+◌}
 use lib.ListN.{length}
-use borrow.Author.Tests.{lt-ltb, le-ltb, not-true, not-false}
+use borrow.Author.Tests.{lt-ltb, le-ltb}
 use Rattle.topic.proofs.Places.{stepped_by}
 use Rattle.topic.specs.Topic.{is_hash, takes_level}
 use Rattle.topic.specs.Walk.{answered, onward, level_end, next_level}
-use borrow.Author.Rules.{rules}
 use Rattle.topic.proofs.Walk.step.Goals as goal
 
 pub returns-then-done : goal.returns-then-done

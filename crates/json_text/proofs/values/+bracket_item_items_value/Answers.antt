@@ -1,0 +1,207 @@
+-- The answers of the cycle of calls {bracket, item, items, value}: each return has the tests of the definition that led there. Assumes nothing.
+use Rattle.std.proofs.Common.{ℕ, ◌+◌, sym, ap, ◌∙◌, refl, arith}
+use Rattle.json_text.specs.Json.{kind_of, value_at, separator_at, is_at, longest}
+use Rattle.json_text.specs.Access.{stepped}
+use Rattle.json_text.specs.declared.Step.TheVariants.{Next}
+use Rattle.json_text.proofs.ScanLaws.{byte_here, comma_next}
+use Rattle.json_text.proofs.ValueLaws.{step_behind, step_on, value_past, inner_none, inner_some, step_opened, step_as, value_step, step_from, itemized_all, itemized_past, itemized_step, item_next, closing_within, bracket_step, bracket_past, value_on, member_step, element_step}
+use Rattle.json_text.proofs.values.+bracket_item_items_value.Goals as goal
+
+pub bracket-returns-then-line-at : goal.bracket-returns-then-line-at
+bracket-returns-then-line-at t c =
+    sym (bracket_past c.args.depth c.args.line.now c.args.object c.args.c.longest c.args.c.at c.if-line-at.true)
+
+pub bracket-overflow_add-result : goal.bracket-overflow_add-result
+bracket-overflow_add-result t c =
+    omega (arith, closing_within c.args.object c.args.line.now c.skip_blanks-first.result c.closing.ensures (sym c.is_at.ensures ∙ c.if-is_at.true))
+
+pub bracket-returns-then-is_at : goal.bracket-returns-then-is_at
+bracket-returns-then-is_at t c =
+    let a = c.args in
+    let first = c.skip_blanks-first.ensures in
+    ap (λ (p : ℕ). Next (record { at = p + 1; longest = a.c.longest })) first
+    ∙ sym
+    (bracket_step a.depth a.line.now a.object a.c.longest a.c.at
+    (sym (λ i. is_at a.line.now (first i) (c.closing.ensures i)) ∙ (sym c.is_at.ensures ∙ c.if-is_at.true)))
+
+pub bracket-returns : goal.bracket-returns
+bracket-returns t c =
+    let a = c.args in
+    let first = c.skip_blanks-first.ensures in
+    c.items.ensures
+    ∙ (ap (stepped longest a.c.longest) (itemized_all a.depth a.line.now a.object c.skip_blanks-first.result)
+    ∙ (ap (λ (p : ℕ). step_from a.depth a.line.now a.object a.c.longest p) first
+    ∙ sym
+    (bracket_step a.depth a.line.now a.object a.c.longest a.c.at
+    (sym (λ i. is_at a.line.now (first i) (c.closing.ensures i)) ∙ (sym c.is_at.ensures ∙ c.if-is_at.false)))))
+
+pub item-returns-in-Next : goal.item-returns-in-Next
+unfolding value_on
+item-returns-in-Next t c =
+    let a = c.args in
+    rw c.if-object.true
+    (c.value.ensures
+    ∙ sym (member_step a.line.now (value_at a.depth a.line.now) a.c.longest a.c.at (sym c.name.ensures ∙ c.in-Next.is)))
+
+pub item-returns-in-Bad : goal.item-returns-in-Bad
+unfolding value_on
+item-returns-in-Bad t c =
+    let a = c.args in
+    rw c.if-object.true
+    (sym (member_step a.line.now (value_at a.depth a.line.now) a.c.longest a.c.at (sym c.name.ensures ∙ c.in-Bad.is)))
+
+pub item-returns : goal.item-returns
+item-returns t c =
+    let a = c.args in
+    rw c.if-object.false (c.value-2.ensures ∙ sym (element_step a.line.now (value_at a.depth a.line.now) a.c.longest a.c.at))
+
+pub items-loop-cursor-init : goal.items-loop-cursor-init
+items-loop-cursor-init t c =
+    let a = c.args in
+    sym (ap (stepped longest a.c.longest) (itemized_all a.depth a.line.now a.object a.c.at))
+
+pub items-returns-in-Bad : goal.items-returns-in-Bad
+unfolding step_on
+items-returns-in-Bad t c =
+    let a = c.args in
+    let cursor = c.loop-cursor.cursor in
+    sym (itemized_step a.depth a.line.now a.object cursor.longest cursor.at c.loop-cursor-test.true (sym c.item.ensures ∙ c.in-Bad.is))
+    ∙ c.loop-cursor.invariant
+
+pub items-returns-in-Close : goal.items-returns-in-Close
+unfolding step_on step_behind
+items-returns-in-Close t c =
+    let a = c.args in
+    let cursor = c.loop-cursor.cursor in
+    let behind = c.in-Next.behind in
+    sym
+    (itemized_step a.depth a.line.now a.object cursor.longest cursor.at c.loop-cursor-test.true (sym c.item.ensures ∙ c.in-Next.is)
+    ∙ ap (step_behind (step_from a.depth a.line.now a.object) behind.longest)
+    (ap (λ (b : ℕ). separator_at b a.line.now behind.at) (sym c.closing.ensures) ∙ (sym c.separator.ensures ∙ c.in-Close.is)))
+    ∙ c.loop-cursor.invariant
+
+pub items-loop-cursor-smaller : goal.items-loop-cursor-smaller
+items-loop-cursor-smaller t c =
+    let a = c.args in
+    let cursor = c.loop-cursor.cursor in
+    omega (
+      arith,
+      item_next a.depth a.line.now a.object cursor.longest cursor.at (sym c.item.ensures ∙ c.in-Next.is),
+      comma_next a.line.now c.in-Next.behind.at c.closing.result (sym c.separator.ensures ∙ c.in-Comma.is),
+    )
+
+pub items-loop-cursor-preserved : goal.items-loop-cursor-preserved
+unfolding step_on step_behind
+items-loop-cursor-preserved t c =
+    let a = c.args in
+    let cursor = c.loop-cursor.cursor in
+    let behind = c.in-Next.behind in
+    sym
+    (itemized_step a.depth a.line.now a.object cursor.longest cursor.at c.loop-cursor-test.true (sym c.item.ensures ∙ c.in-Next.is)
+    ∙ ap (step_behind (step_from a.depth a.line.now a.object) behind.longest)
+    (ap (λ (b : ℕ). separator_at b a.line.now behind.at) (sym c.closing.ensures) ∙ (sym c.separator.ensures ∙ c.in-Comma.is)))
+    ∙ c.loop-cursor.invariant
+
+pub items-returns-in-Neither : goal.items-returns-in-Neither
+unfolding step_on step_behind
+items-returns-in-Neither t c =
+    let a = c.args in
+    let cursor = c.loop-cursor.cursor in
+    let behind = c.in-Next.behind in
+    sym
+    (itemized_step a.depth a.line.now a.object cursor.longest cursor.at c.loop-cursor-test.true (sym c.item.ensures ∙ c.in-Next.is)
+    ∙ ap (step_behind (step_from a.depth a.line.now a.object) behind.longest)
+    (ap (λ (b : ℕ). separator_at b a.line.now behind.at) (sym c.closing.ensures) ∙ (sym c.separator.ensures ∙ c.in-Neither.is)))
+    ∙ c.loop-cursor.invariant
+
+pub items-returns : goal.items-returns
+items-returns t c =
+    let a = c.args in
+    let cursor = c.loop-cursor.cursor in
+    sym (itemized_past a.depth a.line.now a.object cursor.longest cursor.at c.loop-cursor-test.false) ∙ c.loop-cursor.invariant
+
+pub value-returns-then-line-at : goal.value-returns-then-line-at
+unfolding stepped
+value-returns-then-line-at t c =
+    rw (value_past c.args.depth c.args.line.now c.args.c.at c.if-line-at.true)
+
+pub value-returns-then-depth-eq0 : goal.value-returns-then-depth-eq0
+unfolding step_as step_opened
+value-returns-then-depth-eq0 t c =
+    let a = c.args in
+    sym
+    (value_step a.depth a.line.now a.c.longest a.c.at
+    (ap kind_of (byte_here a.line.now a.c.at c.if-line-at.false) ∙ (sym c.kind_of.ensures ∙ c.in-Array.is))
+    (inner_none a.depth a.line.now c.if-depth-eq0.true))
+
+pub value-returns-then-depth-eq0-2 : goal.value-returns-then-depth-eq0-2
+unfolding step_as step_opened
+value-returns-then-depth-eq0-2 t c =
+    let a = c.args in
+    sym
+    (value_step a.depth a.line.now a.c.longest a.c.at
+    (ap kind_of (byte_here a.line.now a.c.at c.if-line-at.false) ∙ (sym c.kind_of.ensures ∙ c.in-Object.is))
+    (inner_none a.depth a.line.now c.if-depth-eq0-2.true))
+
+pub value-returns-in-Number : goal.value-returns-in-Number
+unfolding step_as step_opened
+value-returns-in-Number t c =
+    let a = c.args in
+    c.number.ensures
+    ∙ sym
+    (value_step a.depth a.line.now a.c.longest a.c.at
+    (ap kind_of (byte_here a.line.now a.c.at c.if-line-at.false) ∙ (sym c.kind_of.ensures ∙ c.in-Number.is)) refl)
+
+pub value-returns-in-Text : goal.value-returns-in-Text
+unfolding step_as step_opened
+value-returns-in-Text t c =
+    let a = c.args in
+    c.string.ensures
+    ∙ sym
+    (value_step a.depth a.line.now a.c.longest a.c.at
+    (ap kind_of (byte_here a.line.now a.c.at c.if-line-at.false) ∙ (sym c.kind_of.ensures ∙ c.in-Text.is)) refl)
+
+pub value-returns-else-depth-eq0 : goal.value-returns-else-depth-eq0
+unfolding step_as step_opened
+value-returns-else-depth-eq0 t c =
+    let a = c.args in
+    c.bracket.ensures
+    ∙ sym
+    (value_step a.depth a.line.now a.c.longest a.c.at
+    (ap kind_of (byte_here a.line.now a.c.at c.if-line-at.false) ∙ (sym c.kind_of.ensures ∙ c.in-Array.is))
+    (inner_some a.depth a.line.now c.if-depth-eq0.false))
+
+pub value-returns-else-depth-eq0-2 : goal.value-returns-else-depth-eq0-2
+unfolding step_as step_opened
+value-returns-else-depth-eq0-2 t c =
+    let a = c.args in
+    c.bracket-in-Object.ensures
+    ∙ sym
+    (value_step a.depth a.line.now a.c.longest a.c.at
+    (ap kind_of (byte_here a.line.now a.c.at c.if-line-at.false) ∙ (sym c.kind_of.ensures ∙ c.in-Object.is))
+    (inner_some a.depth a.line.now c.if-depth-eq0-2.false))
+
+pub value-returns-in-Word : goal.value-returns-in-Word
+unfolding step_as step_opened
+value-returns-in-Word t c =
+    let a = c.args in
+    c.word.ensures
+    ∙ sym
+    (value_step a.depth a.line.now a.c.longest a.c.at
+    (ap kind_of (byte_here a.line.now a.c.at c.if-line-at.false) ∙ (sym c.kind_of.ensures ∙ c.in-Word.is)) refl)
+
+pub value-returns-in-Blank : goal.value-returns-in-Blank
+unfolding step_as step_opened
+value-returns-in-Blank t c =
+    let a = c.args in
+    sym
+    (value_step a.depth a.line.now a.c.longest a.c.at
+    (ap kind_of (byte_here a.line.now a.c.at c.if-line-at.false) ∙ (sym c.kind_of.ensures ∙ c.in-Blank.is)) refl)
+
+pub value-returns-in-Other : goal.value-returns-in-Other
+unfolding step_as step_opened
+value-returns-in-Other t c =
+    let a = c.args in
+    sym
+    (value_step a.depth a.line.now a.c.longest a.c.at
+    (ap kind_of (byte_here a.line.now a.c.at c.if-line-at.false) ∙ (sym c.kind_of.ensures ∙ c.in-Other.is)) refl)

@@ -1,0 +1,38 @@
+// What a host asks beside the calls: is an id or a name plain, what does a rule text ask of the tables, how many rows are used.
+ghost use Rattle.std.specs.Prelude.{◌≡◌};
+ghost use Rattle.store.specs.View.{view};
+ghost use Rattle.hosting.specs.Hosting as spec;
+ghost use Rattle.mqtt_acl.specs.Rules as rules;
+ghost use Rattle.mqtt_acl.specs.Hosts as hosts;
+
+// Does the text fill a template without a level or a wildcard more, and not begin with `$`?
+#[unsafe(no_mangle)]
+pub extern "C" fn mqtt_acl_plain_name(name: &[u8]) -> u8
+    ensures { result ≡ rules.yes (spec.plain_name name.now) }
+{
+    mqtt_acl::hosts::mqtt_acl_plain_name(name)
+}
+
+// The filter templates of a rule text: a client asks for so many filter rows and notes at the most.
+#[unsafe(no_mangle)]
+pub extern "C" fn mqtt_acl_filter_templates(rules: &[u8]) -> usize
+    ensures { result ≡ (spec.templates rules.now).filters }
+{
+    mqtt_acl::hosts::mqtt_acl_filter_templates(rules)
+}
+
+// The eq templates of a rule text: a client asks for so many eq rows at the most.
+#[unsafe(no_mangle)]
+pub extern "C" fn mqtt_acl_eq_templates(rules: &[u8]) -> usize
+    ensures { result ≡ (spec.templates rules.now).eqs }
+{
+    mqtt_acl::hosts::mqtt_acl_eq_templates(rules)
+}
+
+// The used rows of a store: filter rows, 65,536 times eq rows and 4,294,967,296 times note rows; 2^64-1 if it is not as laid out.
+#[unsafe(no_mangle)]
+pub extern "C" fn mqtt_acl_used_rows(store: &[u8]) -> u64
+    ensures { result ≡ hosts.used_number (spec.used_in (view store.now)) }
+{
+    mqtt_acl::hosts::mqtt_acl_used_rows(store)
+}
