@@ -4,7 +4,6 @@ use mathlib.Core.Path.{sym, ◌∙◌}
 use Rattle.json_text.proofs.PlainLaws.{Plain, plain_string}
 use Rattle.rule.proofs.OnePassLaws.{part_read}
 use Rattle.authinfo.proofs.OnePassLaws.{plain_part}
-use borrow.Author.Rules.{rules}
 use Rattle.authinfo.proofs.one_pass.value_end.Goals as goal
 
 pub overflow_add-at : goal.overflow_add-at
