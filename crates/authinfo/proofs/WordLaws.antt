@@ -14,7 +14,7 @@ use Rattle.text.specs.Ascii.{ascii}
 use Rattle.text.specs.Text.{begins, contains, occurs, replace, pasted}
 use Rattle.text.proofs.Laws.{and_split, begins_split, begins-length, contains-begins, occurs_false, replace_occurrence, replace_other, replace_absent, Wrote, wrote_none, wrote_lengths, wrote_part, wrote_all, written-take, pasted_fits}
 use Rattle.rule.specs.Limits.{text_limit}
-use Rattle.authinfo.specs.ClientRule.{username, clientid, put_if, fill_for}
+use Rattle.authinfo.specs.ClientRule.{put_if, fill_for}
 use Rattle.authinfo.specs.Filling.{dollar, before_dollar, dollar_from, stands_last, word_put}
 
 -- ---- the first `$`, byte by byte

@@ -6,7 +6,6 @@ use Rattle.text.specs.Text.{replace}
 use Rattle.json_text.specs.Lines.{lines}
 use Rattle.json_text.specs.Strings.{Decoded, string_at}
 use Rattle.json_text.specs.Access.{string_is, member_value, member_named, number_here, kind_at, first_item, next_item}
-use Rattle.json_text.specs.declared.Kind.{Kind}
 use Rattle.json_text.specs.declared.Kind.TheVariants.{Number, Text, Array, Object, Word, Blank, Other}
 use Rattle.json_text.specs.declared.Place.{Place}
 use Rattle.json_text.specs.declared.Place.TheVariants.{At, Nowhere}
@@ -17,7 +16,6 @@ use Rattle.json_text.specs.declared.Truth.TheVariants.{Holds, Unknown}
 use Rattle.rule.specs.Limits.{text_limit, id_limit}
 use Rattle.rule.specs.Members.{truth_from}
 use Rattle.rule.specs.RuleText.{Result, refused, gives, Fault}
-use Rattle.rule.specs.declared.Refusal.{Refusal}
 use Rattle.rule.specs.declared.Refusal.TheVariants.{NotARule}
 use Rattle.authinfo.specs.ClientRule as spec
 use Rattle.authinfo.specs.ClientRule.{ClientRule, clientid, topic_of, fill_for, filled_topic}

@@ -2,7 +2,7 @@
 use Prim.Native.Nat.{ℕ, ◌-◌, ◌≤◌}
 use native.Mathlib.Omega.{arith}
 use mathlib.Core.Path.{◌≡◌, refl, sym, ap, ◌∙◌}
-use mathlib.Core.List.{List, [], ◌∷◌}
+use mathlib.Core.List.{List}
 use mathlib.Core.Option.{Option, none, some, bind, map, none-ne-some}
 use lib.ListN.{length, take}
 use Rattle.json_text.specs.Json.{array, Elements, line_value}
@@ -12,7 +12,6 @@ use Rattle.json_text.specs.declared.Found.{Found}
 use Rattle.json_text.specs.declared.Found.TheVariants.{Is, Absent}
 use Rattle.json_text.specs.declared.Copied.{Copied}
 use Rattle.json_text.specs.declared.Copied.TheVariants.{Length, TooLong, NoText}
-use Rattle.json_text.specs.contracts.Copied as copied-type
 use Rattle.rule.specs.Rule.{nth, as_number}
 use Rattle.rule.specs.Places.{given, place_of}
 use Rattle.rule.specs.Identity.{Client}

@@ -3,7 +3,7 @@ use Prim.Native.Nat.{ℕ, ◌-◌, ◌≤◌, ◌<◌}
 use native.Mathlib.Omega.{arith}
 use mathlib.Core.Path.{◌≡◌, refl, sym, ap, ◌∙◌}
 use mathlib.Core.Bool.{Bool, true, false, ◌&&◌, not, cond, true≢false}
-use mathlib.Core.List.{List, [], ◌∷◌}
+use mathlib.Core.List.{List}
 use mathlib.Core.Option.{Option, none, some, bind, map}
 use lib.Dec.{ltb, eqb}
 use lib.ListN.{length, take}
@@ -22,7 +22,6 @@ use Rattle.json_text.specs.declared.Truth.{Truth}
 use Rattle.json_text.specs.declared.Truth.TheVariants.{Holds, Unknown as NoTruth}
 use Rattle.json_text.specs.declared.Copied.{Copied}
 use Rattle.json_text.specs.declared.Copied.TheVariants.{Length, TooLong, NoText}
-use Rattle.json_text.specs.contracts.Copied as copied-type
 use Rattle.json_text.proofs.AccessSteps.{kind_is, kind_opens}
 use Rattle.json_text.proofs.AccessLaws.{kind_is_lem, truth_is, line_is}
 use Rattle.rule.specs.Limits.{line_limit}
@@ -47,7 +46,6 @@ use Rattle.lines.specs.declared.GivenRead.TheVariants.{Is as GivenIs, Bad as Bad
 use Rattle.lines.specs.declared.HeaderRead.{HeaderRead}
 use Rattle.lines.specs.declared.HeaderRead.TheVariants.{Client as ClientIs, Bad as BadHeader}
 use Rattle.lines.specs.declared.Said.{Said}
-use Rattle.lines.specs.contracts.Form as form_type_lem
 use Rattle.lines.proofs.ElementLaws.{is_text, from_front, element_stands, fields_are, having_more, having_read, having-none, number_told, number_bad, text_told, text_bad, given_told, given_bad}
 use Rattle.lines.proofs.AskerLaws.{bind_none}
 use Rattle.lines.proofs.AnswerLaws.{form_by, form_is, array_opens}

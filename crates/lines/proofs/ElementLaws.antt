@@ -3,7 +3,7 @@ use Prim.Native.Nat.{ℕ, zero, suc, ◌-◌, ◌≤◌, ◌<◌}
 use native.Mathlib.Omega.{arith}
 use mathlib.Core.Path.{◌≡◌, refl, sym, ap, subst, ◌∙◌}
 use mathlib.Core.Bool.{Bool, true, false, cond}
-use mathlib.Core.List.{List, [], ◌∷◌}
+use mathlib.Core.List.{List}
 use mathlib.Core.Option.{Option, none, some, bind, map, none-ne-some}
 use lib.Dec.{eqb, leb}
 use lib.ListN.{length, take, replicate, length-replicate}
@@ -18,7 +18,6 @@ use Rattle.json_text.specs.declared.Found.{Found}
 use Rattle.json_text.specs.declared.Found.TheVariants.{Is, Absent}
 use Rattle.json_text.specs.declared.Copied.{Copied}
 use Rattle.json_text.specs.declared.Copied.TheVariants.{Length, TooLong, NoText}
-use Rattle.json_text.specs.contracts.Copied as copy
 use Rattle.json_text.proofs.ValueLaws.{value_next, value_past}
 use Rattle.json_text.proofs.AccessLaws.{ElementsIn, element_place, array_is, line_is}
 use Rattle.rule.specs.Limits.{line_limit}

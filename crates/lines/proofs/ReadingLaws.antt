@@ -2,12 +2,11 @@
 use Prim.Native.Nat.{ℕ}
 use mathlib.Core.Path.{◌≡◌, refl}
 use mathlib.Core.Bool.{Bool, false, cond}
-use mathlib.Core.List.{List, [], ◌∷◌}
+use mathlib.Core.List.{List}
 use Rattle.text.specs.Ascii.{ascii}
 use Rattle.json_text.specs.Access.{copied}
 use Rattle.json_text.specs.declared.Literal.{Literal}
 use Rattle.json_text.specs.declared.Literal.TheVariants.{Null, True, False, Bad}
-use Rattle.json_text.specs.contracts.Literal as literal
 use Rattle.json_text.specs.declared.Place.{Place}
 use Rattle.json_text.specs.declared.Found.{Found}
 use Rattle.json_text.specs.declared.Copied.{Copied}

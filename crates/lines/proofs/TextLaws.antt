@@ -7,7 +7,6 @@ use mathlib.Core.Option.{Option, none, some, none-ne-some}
 use lib.ListN.{length, take, drop, length-append, length-take, length-drop}
 use Rattle.json_text.specs.Utf8.{utf8}
 use Rattle.json_text.specs.Strings.{Decoded, grown, string_at, piece_of, string_from as bytesFrom}
-use Rattle.json_text.specs.Json.{text}
 use Rattle.json_text.specs.declared.Piece.{Piece}
 use Rattle.json_text.specs.declared.Piece.TheVariants.{Closes, Raw, Escaped, Bad}
 use Rattle.json_text.proofs.ScanLaws.{string_within}

@@ -1,6 +1,6 @@
 -- What a line of the program `client` asks, and what is said of it: its input is a first line `[superuser, id, name or null]`, the client's
 -- rules, an empty line and question lines (docs/DECISIONS.md, Programs).
-use Rattle.std.specs.Prelude.{ℕ, Bool, cond, List, ltb, length}
+use Rattle.std.specs.Prelude.{ℕ, cond, List, ltb, length}
 use Rattle.std.proofs.Math.Option.{Option, none, some, bind, map}
 use Rattle.text.specs.Ascii.{ascii}
 use Rattle.text.specs.Text.{same}

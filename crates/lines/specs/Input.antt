@@ -1,6 +1,6 @@
 -- Input in pieces: how the bytes of a line, and of the rules, are gathered in a buffer (document 01, JSON line, "LF ends a line and isn't
 -- counted in its length; the last may lack it"; Marked examples, "standard input is rule lines, an empty line, event lines").
-use Rattle.std.specs.Prelude.{ℕ, ◌+◌, Bool, true, false, ◌&&◌, cond, List, eqb, ltb, length, set}
+use Rattle.std.specs.Prelude.{ℕ, ◌+◌, true, false, ◌&&◌, cond, List, eqb, ltb, length, set}
 use Rattle.lines.specs.declared.Begun.{Begun}
 use Rattle.lines.specs.declared.Taken.{Taken}
 use Rattle.lines.specs.declared.Taken.TheVariants.{Part, Line, LongLine}

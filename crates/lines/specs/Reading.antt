@@ -19,7 +19,6 @@ use Rattle.rule.specs.Limits.{line_limit}
 use Rattle.rule.specs.Members.{number_from, truth_from}
 use Rattle.rule.specs.declared.Given.{Given}
 use Rattle.rule.specs.declared.Given.TheVariants.{Absent as NotGiven, Length as GivenTo}
-use Rattle.rule.specs.declared.Protocol.{Protocol}
 use Rattle.rule.specs.declared.Protocol.TheVariants.{Any, Is as ProtocolIs}
 use Rattle.reader.specs.declared.Fields.{Fields}
 use Rattle.lines.specs.declared.Form.{Form}
@@ -28,7 +27,6 @@ use Rattle.lines.specs.declared.GivenRead.{GivenRead}
 use Rattle.lines.specs.declared.GivenRead.TheVariants.{Is as GivenIs, Bad as BadGiven}
 use Rattle.lines.specs.declared.ProtocolRead.{ProtocolRead}
 use Rattle.lines.specs.declared.ProtocolRead.TheVariants.{Is as ReadProtocol, Bad as BadProtocol}
-use Rattle.lines.specs.declared.Asker.{Asker}
 use Rattle.lines.specs.declared.HeaderRead.{HeaderRead}
 use Rattle.lines.specs.declared.HeaderRead.TheVariants.{Client as ClientIs, Bad as BadHeader}
 use Rattle.lines.specs.declared.AskerRead.{AskerRead}

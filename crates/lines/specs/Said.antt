@@ -1,15 +1,14 @@
 -- What is said of a line, and what it does to the store: document 01, Marked examples (Output).
-use Rattle.std.specs.Prelude.{ℕ, Bool, true, false, cond, List}
+use Rattle.std.specs.Prelude.{ℕ, Bool, cond, List}
 use Rattle.std.proofs.Math.Option.{Option, none, some}
-use Rattle.json_text.specs.declared.Found.{Found}
 use Rattle.json_text.specs.declared.Found.TheVariants.{Is, Absent}
 use Rattle.store.specs.View.{view}
-use Rattle.events.specs.Event.{Event, cause, after}
-use Rattle.questions.specs.Question.{Question, Decision, kept, connects, subscribes, publishes, not_authorized, unspecified_error, Reply, refuses, decides}
+use Rattle.events.specs.Event.{cause, after}
+use Rattle.questions.specs.Question.{Decision, kept, connects, subscribes, publishes, not_authorized, unspecified_error, Reply, refuses, decides}
 use Rattle.questions.specs.Decision.{ask}
 use Rattle.lines.specs.Call.{Call, happens, asks, call_of}
 use Rattle.lines.specs.declared.Word.{Word}
-use Rattle.lines.specs.declared.Word.TheVariants.{Done, Kept, Allow, Super, Refuse, Drop, NoDecision, Error}
+use Rattle.lines.specs.declared.Word.TheVariants.{Done, Kept, Allow, Super, Refuse, Drop, Error}
 use Rattle.lines.specs.declared.Said.{Said}
 
 -- a word with the deciding rule's number, or with that of an error

@@ -1,6 +1,5 @@
 -- `authinfo::ask::client_subscribe` meets its contract: the reply follows from what decides. Assumes nothing.
 use mathlib.Core.Path.{sym}
-use borrow.Author.Rules.{rules}
 use Rattle.rule.specs.Places.{given}
 use Rattle.authinfo.specs.Decision.{subscribe, allowance, refusal}
 use Rattle.authinfo.specs.Answers.{subscribe_says}

@@ -4,12 +4,11 @@ use mathlib.Core.Path.{◌≡◌, refl, sym, ◌∙◌}
 use mathlib.Core.Bool.{Bool, false}
 use lib.Dec.{ltb}
 use lib.ListN.{length}
-use borrow.Author.Rules.{rules}
 use borrow.Author.Tests.{lt-ltb, le-ltb}
 use Rattle.json_text.specs.Lines.{lines}
 use Rattle.rule.specs.Limits.{lines_limit}
 use Rattle.rule.specs.Places.{given}
-use Rattle.authinfo.specs.Decision.{Client, qos_limit, read_lines}
+use Rattle.authinfo.specs.Decision.{qos_limit, read_lines}
 use Rattle.authinfo.specs.Places.{question_of, qos_of_asked, hit_in, too_long, for_client, unless_fault, deciding}
 use Rattle.authinfo.specs.declared.FirstHit.{FirstHit}
 use Rattle.authinfo.proofs.AskLaws.{many_lines, few_lines, name_fits, fault_by, deciding_by, superuser_allowed, others_decided}

@@ -1,9 +1,9 @@
 -- The loop's invariant: the answer from line `n` on, which begins at `at`, behind what was found is that of the text, and no more lines than
 -- bytes were passed. The measure is what is left of the text. Assumes nothing.
 use mathlib.Core.Path.{◌≡◌, refl, sym, ap, ◌∙◌}
-use Prim.Native.Nat.{ℕ, ◌+◌, ◌-◌, ◌≤◌}
+use Prim.Native.Nat.{ℕ, ◌+◌, ◌-◌}
 use native.Mathlib.Omega.{arith}
-use lib.ListN.{length, take, drop}
+use lib.ListN.{take, drop}
 use Rattle.json_text.specs.Lines.{lines, next_line}
 use Rattle.json_text.proofs.LineLaws.{lines_past, line_part, line_within, next_after, next_from_end}
 use Rattle.rule.specs.Places.{given}
@@ -11,7 +11,6 @@ use Rattle.authinfo.specs.Places.{question_of}
 use Rattle.authinfo.specs.declared.FirstHit.TheVariants.{NoRule}
 use Rattle.authinfo.specs.declared.LineRead.{LineRead}
 use Rattle.authinfo.proofs.AskLaws.{from, on_line, on_line_lem, from_first}
-use borrow.Author.Rules.{rules}
 use Rattle.authinfo.proofs.ask.first_hit.Goals as goal
 
 pub loop-at-init : goal.loop-at-init

@@ -1,17 +1,13 @@
 -- The loop's invariant: the answer from line `n` on, which begins at `at`, behind what was found is that of the text, and no more lines than
 -- bytes were passed. The measure is what is left of the text. Assumes nothing.
-use mathlib.Core.Path.{◌≡◌, refl, sym, ap, ◌∙◌}
-use Prim.Native.Nat.{ℕ, ◌+◌, ◌-◌, ◌≤◌}
-use native.Mathlib.Omega.{arith}
-use lib.ListN.{length, take, drop}
-use Rattle.json_text.specs.Lines.{lines, next_line}
-use Rattle.json_text.proofs.LineLaws.{lines_past, line_part, line_within, next_after, next_from_end}
+use mathlib.Core.Path.{◌≡◌}
+use Prim.Native.Nat.{◌+◌, ◌-◌, ◌≤◌}
+use lib.ListN.{length, drop}
+use Rattle.json_text.specs.Lines.{lines}
 use Rattle.rule.specs.Places.{given}
 use Rattle.authinfo.specs.Places.{question_of}
 use Rattle.authinfo.specs.declared.FirstHit.TheVariants.{NoRule}
-use Rattle.authinfo.specs.declared.LineRead.{LineRead}
-use Rattle.authinfo.proofs.AskLaws.{from, on_line, on_line_lem, from_first}
-use borrow.Author.Rules.{rules}
+use Rattle.authinfo.proofs.AskLaws.{from}
 use Rattle.authinfo.proofs.ask.first_hit.Given as goal
 
 abbrev pub invariant-loop-at : goal.invariant-loop-at

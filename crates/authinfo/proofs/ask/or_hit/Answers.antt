@@ -1,5 +1,4 @@
 -- What was seen before stays; else the verdict decides. Assumes nothing.
-use borrow.Author.Rules.{rules}
 use Rattle.authinfo.specs.Places.{or_hit, hit_by}
 use Rattle.authinfo.proofs.AskLaws.{seen_first}
 use Rattle.authinfo.proofs.ask.or_hit.Goals as goal

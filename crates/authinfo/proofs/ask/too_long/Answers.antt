@@ -1,6 +1,5 @@
 -- The tests in their order are the parts of `too_long`. Assumes nothing.
 use mathlib.Core.Path.{sym, ◌∙◌}
-use borrow.Author.Rules.{rules}
 use borrow.Author.Tests.{lt-ltb, le-ltb}
 use Rattle.authinfo.specs.Places.{too_long}
 use Rattle.authinfo.proofs.ask.too_long.Goals as goal

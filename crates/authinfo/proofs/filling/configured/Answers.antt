@@ -6,7 +6,6 @@ use Rattle.text.specs.Ascii.{ascii}
 use Rattle.text.proofs.Laws.{begins-length}
 use Rattle.rule.specs.Places.{given}
 use Rattle.authinfo.proofs.FillingLaws.{topic_eq, topic_empty, topic_filter}
-use borrow.Author.Rules.{rules}
 use Rattle.authinfo.proofs.filling.configured.Goals as goal
 
 pub slice_bounds-filled-count : goal.slice_bounds-filled-count

@@ -1,10 +1,6 @@
 -- The loop's invariant: the first `$` from `i` on is that from `at` on. The measure is what is left of the text. Assumes nothing.
-use Prim.Native.Nat.{◌-◌}
-use mathlib.Core.Path.{◌≡◌, refl, sym, ◌∙◌}
-use lib.ListN.{length}
-use Rattle.authinfo.specs.Filling.{dollar_from}
+use mathlib.Core.Path.{refl, sym, ◌∙◌}
 use Rattle.authinfo.proofs.WordLaws.{dollar_past, dollar_here, dollar_onward}
-use borrow.Author.Rules.{rules}
 use Rattle.authinfo.proofs.filling.dollar_from.Goals as goal
 
 pub loop-i-init : goal.loop-i-init

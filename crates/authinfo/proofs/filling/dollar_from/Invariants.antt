@@ -1,10 +1,8 @@
 -- The loop's invariant: the first `$` from `i` on is that from `at` on. The measure is what is left of the text. Assumes nothing.
 use Prim.Native.Nat.{◌-◌}
-use mathlib.Core.Path.{◌≡◌, refl, sym, ◌∙◌}
+use mathlib.Core.Path.{◌≡◌}
 use lib.ListN.{length}
 use Rattle.authinfo.specs.Filling.{dollar_from}
-use Rattle.authinfo.proofs.WordLaws.{dollar_past, dollar_here, dollar_onward}
-use borrow.Author.Rules.{rules}
 use Rattle.authinfo.proofs.filling.dollar_from.Given as goal
 
 abbrev pub invariant-loop-i : goal.invariant-loop-i

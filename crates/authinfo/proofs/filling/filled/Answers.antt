@@ -11,7 +11,6 @@ use Rattle.authinfo.specs.ClientRule.{filled_topic}
 use Rattle.authinfo.specs.Places.{taken_by}
 use Rattle.authinfo.proofs.FillingLaws.{absent, filled_nobody}
 use Rattle.authinfo.proofs.WordLaws.{dollar_first, dollar_within, OneWord, one_word, fill_none, fill_id, fill_name}
-use borrow.Author.Rules.{rules}
 use Rattle.authinfo.proofs.filling.filled.Goals as goal
 
 pub returns-then-at-configured : goal.returns-then-at-configured

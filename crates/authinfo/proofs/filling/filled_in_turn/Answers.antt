@@ -3,14 +3,12 @@ use mathlib.Core.Path.{sym, ap, ◌∙◌}
 use native.Mathlib.Omega.{arith}
 use lib.ListN.{replicate}
 use lib.Seq.{length-take-le}
-use borrow.Author.Tests.{not-true, not-false}
 use Rattle.text.specs.Text.{replace}
 use Rattle.text.proofs.Laws.{too_long_told}
 use Rattle.rule.specs.Places.{given}
 use Rattle.rule.specs.declared.Given.{Given}
 use Rattle.authinfo.specs.ClientRule.{username}
 use Rattle.authinfo.proofs.FillingLaws.{put_room, put_front, between_fits, name_fits, absent, filled_plain, filled_nobody, filled_named}
-use borrow.Author.Rules.{rules}
 use Rattle.authinfo.proofs.filling.filled_in_turn.Goals as goal
 
 pub returns-then-not-contains : goal.returns-then-not-contains

@@ -1,9 +1,7 @@
 -- By the two tests. Assumes nothing.
 use mathlib.Core.Path.{sym, ◌∙◌}
-use borrow.Author.Tests.{not-true, not-false}
 use borrow.Author.Rules.{part_to_end}
 use Rattle.authinfo.specs.Filling.{stands_last}
-use borrow.Author.Rules.{rules}
 use Rattle.authinfo.proofs.filling.stands_last.Goals as goal
 
 pub returns-then-not-begins : goal.returns-then-not-begins

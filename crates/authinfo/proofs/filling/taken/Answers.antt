@@ -1,8 +1,6 @@
 -- Each return has the tests that led there. Assumes nothing.
 use mathlib.Core.Path.{sym, ap, ◌∙◌}
 use native.Mathlib.Omega.{arith}
-use borrow.Author.Rules.{rules}
-use borrow.Author.Tests.{not-true, not-false}
 use Rattle.authinfo.specs.declared.TopicRead.TheVariants.{Takes}
 use Rattle.authinfo.proofs.FillingLaws.{taken_long, taken_eq, taken_none, taken_filter}
 use Rattle.authinfo.proofs.filling.taken.Goals as goal

@@ -10,7 +10,6 @@ use Rattle.rule.specs.Places.{given}
 use Rattle.rule.proofs.DecodeLaws.{decoded_length, decoded_over, decoded_none}
 use Rattle.authinfo.specs.Places.{topic_takes}
 use Rattle.authinfo.proofs.FillingLaws.{short_there, text_there, no_topic}
-use borrow.Author.Rules.{rules}
 use Rattle.authinfo.proofs.filling.topic_at.Goals as goal
 
 pub overflow_add-at : goal.overflow_add-at

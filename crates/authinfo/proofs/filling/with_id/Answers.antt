@@ -2,12 +2,10 @@
 use mathlib.Core.Path.{sym, ◌∙◌}
 use lib.ListN.{replicate}
 use lib.Seq.{length-take-le}
-use borrow.Author.Tests.{not-true, not-false}
 use Rattle.text.specs.Text.{replace}
 use Rattle.text.proofs.Laws.{too_long_told}
 use Rattle.authinfo.specs.ClientRule.{clientid}
 use Rattle.authinfo.proofs.FillingLaws.{taken_long, put_room, put_front, not_held, id_held, taken_same}
-use borrow.Author.Rules.{rules}
 use Rattle.authinfo.proofs.filling.with_id.Goals as goal
 
 pub returns-then-not-held : goal.returns-then-not-held

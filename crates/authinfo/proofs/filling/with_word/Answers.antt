@@ -7,7 +7,6 @@ use Rattle.authinfo.specs.Filling.{word_put}
 use Rattle.authinfo.proofs.FillingLaws.{taken_long, taken_same}
 use Rattle.authinfo.proofs.WordLaws.{put_long, Filled, three_parts}
 use borrow.Author.Rules.{part_to_end}
-use borrow.Author.Rules.{rules}
 use Rattle.authinfo.proofs.filling.with_word.Goals as goal
 
 pub returns-then-kept-new : goal.returns-then-kept-new

@@ -1,5 +1,4 @@
 -- The flag decides. Assumes nothing.
-use borrow.Author.Rules.{rules}
 use Rattle.authinfo.proofs.members.chosen.Goals as goal
 
 pub returns-then-is : goal.returns-then-is

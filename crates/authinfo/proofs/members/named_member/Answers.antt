@@ -3,7 +3,6 @@ use mathlib.Core.Path.{ap, ◌∙◌}
 use mathlib.Core.Bool.{Bool, cond}
 use Rattle.json_text.specs.Access.{member_value}
 use Rattle.authinfo.specs.Places.{noted_at}
-use borrow.Author.Rules.{rules}
 use Rattle.authinfo.proofs.members.named_member.Goals as goal
 
 pub returns : goal.returns

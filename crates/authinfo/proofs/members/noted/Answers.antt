@@ -2,7 +2,6 @@
 use mathlib.Core.Path.{sym, ap, ◌∙◌}
 use mathlib.Core.Bool.{Bool, cond}
 use Rattle.json_text.specs.Access.{member_value}
-use borrow.Author.Rules.{rules}
 use Rattle.authinfo.proofs.members.noted.Goals as goal
 
 pub returns-then-string_is : goal.returns-then-string_is

@@ -1,6 +1,5 @@
 -- Member by member. Assumes nothing.
 use Rattle.authinfo.specs.Places.{noted_at}
-use borrow.Author.Rules.{rules}
 use Rattle.authinfo.proofs.members.other_member.Goals as goal
 
 pub returns : goal.returns

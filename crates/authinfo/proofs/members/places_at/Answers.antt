@@ -1,10 +1,9 @@
 -- The loop's invariant: of each name, the last of the members from `i` on, behind others whose last are in `found`, is that of the object.
 -- The measure is what is left of the line. Assumes nothing.
 use mathlib.Core.Path.{◌≡◌, sym, ap, ◌∙◌}
-use Prim.Native.Nat.{ℕ, ◌-◌, ◌<◌}
+use Prim.Native.Nat.{ℕ, ◌<◌}
 use native.Mathlib.Omega.{arith}
 use mathlib.Core.Bool.{true}
-use lib.ListN.{length}
 use Rattle.json_text.specs.declared.Separator.{Separator}
 use Rattle.json_text.specs.declared.Separator.TheVariants.{Comma}
 use Rattle.json_text.specs.declared.Step.{Step}
@@ -14,7 +13,6 @@ use Rattle.json_text.proofs.AccessSteps.{last_in, named_from, named_behind, name
 use Rattle.authinfo.specs.Places.{places_at}
 use Rattle.authinfo.specs.declared.RulePlaces.{RulePlaces}
 use Rattle.authinfo.proofs.MemberLaws.{last_places, places_from, places_by, places_on, places_behind, places_step}
-use borrow.Author.Rules.{rules}
 use Rattle.authinfo.proofs.members.places_at.Goals as goal
 
 pub returns-in_default : goal.returns-in_default

@@ -3,7 +3,6 @@ use mathlib.Core.Path.{sym, ap, ◌∙◌}
 use native.Mathlib.Omega.{arith}
 use Rattle.json_text.proofs.PlainLaws.{Plain, plain_string}
 use Rattle.json_text.proofs.StringLaws.{is_rest, is_begins}
-use borrow.Author.Rules.{rules}
 use Rattle.authinfo.proofs.members.with_member.Goals as goal
 
 pub overflow_add-at : goal.overflow_add-at

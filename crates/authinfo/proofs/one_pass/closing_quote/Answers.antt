@@ -1,7 +1,6 @@
 -- By the kind of what stands there: a string, or something else. Assumes nothing.
 use mathlib.Core.Path.{sym, ◌∙◌}
 use Rattle.rule.proofs.MemberLaws.{no_text}
-use borrow.Author.Rules.{rules}
 use Rattle.authinfo.proofs.one_pass.closing_quote.Goals as goal
 
 pub returns-in_default : goal.returns-in_default

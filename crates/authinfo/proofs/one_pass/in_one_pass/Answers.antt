@@ -2,14 +2,13 @@
 use Prim.Native.Nat.{◌+◌, ◌-◌}
 use native.Mathlib.Omega.{arith}
 use mathlib.Core.Path.{sym, ◌∙◌}
-use lib.ListN.{length, take, drop}
+use lib.ListN.{take, drop}
 use Rattle.json_text.proofs.ScanLaws.{at_within}
 use Rattle.json_text.proofs.PlainLaws.{Plain, plain_string}
 use Rattle.rule.specs.OnePass.{PartTo}
 use Rattle.rule.proofs.MemberLaws.{object_opens}
 use Rattle.rule.proofs.OnePassLaws.{answered, MemberAt, member_read, member_forward}
-use Rattle.authinfo.proofs.OnePassLaws.{Passed, none_passed, passed_more, line_passed}
-use borrow.Author.Rules.{rules}
+use Rattle.authinfo.proofs.OnePassLaws.{none_passed, passed_more, line_passed}
 use Rattle.authinfo.proofs.one_pass.in_one_pass.Goals as goal
 
 pub overflow_add-first : goal.overflow_add-first

@@ -4,7 +4,6 @@ use mathlib.Core.Path.{sym, ◌∙◌}
 use Rattle.json_text.proofs.PlainLaws.{Plain, plain_string}
 use Rattle.rule.proofs.OnePassLaws.{part_read}
 use Rattle.authinfo.proofs.OnePassLaws.{plain_part}
-use borrow.Author.Rules.{rules}
 use Rattle.authinfo.proofs.one_pass.value_end.Goals as goal
 
 pub overflow_add-at : goal.overflow_add-at
@@ -25,7 +24,7 @@ overflow_add-result c =
 pub returns-in-At : goal.returns-in-At
 returns-in-At c =
     let found : Plain c.args.line.now c.args.at c.in-At.end = plain_string c.args.line.now c.args.at (sym c.requires ∙ c.in-At.is) in
-    plain_part c.args.line.now c.args.at (found) c.args.longest c.if-longest-gt-TEXT.false c.if-end-at-gt-TEXT.false
+    plain_part c.args.line.now c.args.at found c.args.longest (omega arith) (omega arith)
 
 pub returns-else-c-gt-TEXT : goal.returns-else-c-gt-TEXT
 returns-else-c-gt-TEXT c =

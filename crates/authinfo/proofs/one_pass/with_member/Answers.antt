@@ -1,7 +1,6 @@
 -- By the comparisons. Assumes nothing.
 use mathlib.Core.Path.{sym, ◌∙◌}
 use Rattle.authinfo.proofs.OnePassLaws.{is_permission, is_action, is_topic, is_qos, is_retain, is_other}
-use borrow.Author.Rules.{rules}
 use Rattle.authinfo.proofs.one_pass.with_member.Goals as goal
 
 pub returns-then-same : goal.returns-then-same

@@ -2,7 +2,6 @@
 use mathlib.Core.Path.{sym, ap}
 use Rattle.authinfo.specs.Decision.{qos_asked}
 use Rattle.authinfo.specs.Places.{question_of, qos_of_asked}
-use borrow.Author.Rules.{rules}
 use Rattle.authinfo.proofs.reading.asked_qos.Goals as goal
 
 pub returns-in-Subscribe : goal.returns-in-Subscribe

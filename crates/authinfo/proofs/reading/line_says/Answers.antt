@@ -5,7 +5,6 @@ use Rattle.rule.specs.Places.{given}
 use Rattle.authinfo.specs.Places.{question_of, places_at, ShortTopic}
 use Rattle.authinfo.specs.OnePass.{parts_at, quote_at, LineTo}
 use Rattle.authinfo.proofs.ReadingLaws.{short_line, long_says, invalid_says, over_says, valid_says, tells_short, tells_says, line_answered, passed_short, passed_says}
-use borrow.Author.Rules.{rules}
 use Rattle.authinfo.proofs.reading.line_says.Goals as goal
 
 pub returns-then-line-gt-LINE : goal.returns-then-line-gt-LINE

@@ -1,6 +1,5 @@
 -- Member by member. Assumes nothing.
 use Rattle.authinfo.specs.OnePass.{parts_at}
-use borrow.Author.Rules.{rules}
 use Rattle.authinfo.proofs.reading.parts_at.Goals as goal
 
 pub returns : goal.returns

@@ -2,7 +2,6 @@
 use mathlib.Core.Path.{sym, ap, ◌∙◌}
 use Rattle.authinfo.specs.Places.{levels_from, one_level, qos_here}
 use Rattle.authinfo.proofs.ReadingLaws.{qos_on, qos_by, qos_other}
-use borrow.Author.Rules.{rules}
 use Rattle.authinfo.proofs.reading.qos_at.Goals as goal
 
 pub returns-in_default : goal.returns-in_default

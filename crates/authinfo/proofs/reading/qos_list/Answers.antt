@@ -5,7 +5,6 @@ use Prim.Native.Nat.{◌-◌}
 use Rattle.authinfo.specs.Places.{level_here, levels_up_to, levels_from}
 use Rattle.authinfo.specs.declared.QosRead.TheVariants.{Takes}
 use Rattle.authinfo.proofs.ReadingLaws.{level_number, level_other, levels_end, levels_none, levels_next, levels_bad}
-use borrow.Author.Rules.{rules}
 use Rattle.authinfo.proofs.reading.qos_list.Goals as goal
 use Rattle.authinfo.proofs.reading.qos_list.Goals.{in-Is+in-Takes, in_default-number_value}
 

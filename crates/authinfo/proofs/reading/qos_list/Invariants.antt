@@ -1,12 +1,7 @@
 -- The loop's invariant: what the elements left come to, behind those that came to `takes`, is what all come to. The measure is the turns that
 -- are left. Assumes nothing.
-use mathlib.Core.Path.{◌≡◌, refl, sym, ap, ◌∙◌}
-use mathlib.Core.Logic.{⊎_elim}
-use Prim.Native.Nat.{◌-◌}
-use Rattle.authinfo.specs.Places.{level_here, levels_up_to, levels_from}
-use Rattle.authinfo.specs.declared.QosRead.TheVariants.{Takes}
-use Rattle.authinfo.proofs.ReadingLaws.{level_number, level_other, levels_end, levels_none, levels_next, levels_bad}
-use borrow.Author.Rules.{rules}
+use mathlib.Core.Path.{◌≡◌}
+use Rattle.authinfo.specs.Places.{levels_up_to, levels_from}
 use Rattle.authinfo.proofs.reading.qos_list.Given as goal
 
 abbrev pub invariant-loop-turns : goal.invariant-loop-turns

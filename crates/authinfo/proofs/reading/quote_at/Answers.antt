@@ -1,7 +1,6 @@
 -- By the place. Assumes nothing.
 use mathlib.Core.Path.{sym, ap, ◌∙◌}
 use Rattle.authinfo.specs.OnePass.{quote_at}
-use borrow.Author.Rules.{rules}
 use Rattle.authinfo.proofs.reading.quote_at.Goals as goal
 
 pub returns-in_default : goal.returns-in_default

@@ -7,7 +7,6 @@ use Rattle.authinfo.specs.Places.{ShortTopic, takes_kind, verdict, topic_from, b
 use Rattle.authinfo.specs.OnePass.{quote_at}
 use Rattle.authinfo.specs.declared.LineRead.TheVariants.{Says}
 use Rattle.authinfo.proofs.ReadingLaws.{parts_by, qos_asked_lem}
-use borrow.Author.Rules.{rules}
 use Rattle.authinfo.proofs.reading.rule_says.Goals as goal
 use Rattle.authinfo.proofs.reading.rule_says.Goals.{then-level, else-level, then-kind, else-kind}
 

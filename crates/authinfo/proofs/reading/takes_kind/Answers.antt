@@ -3,7 +3,6 @@ use mathlib.Core.Path.{refl, sym, ◌∙◌}
 use Rattle.authinfo.specs.Decision.{covers, retain_hits, publish_retain}
 use Rattle.authinfo.specs.Places.{question_of, takes_kind, flag_of}
 use Rattle.authinfo.proofs.ReadingLaws.{kind_by, publish_kind, publish_by}
-use borrow.Author.Rules.{rules}
 use Rattle.authinfo.proofs.reading.takes_kind.Goals as goal
 
 pub returns-in-Subscribe-action-2 : goal.returns-in-Subscribe-action-2

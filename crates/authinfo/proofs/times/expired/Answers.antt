@@ -1,7 +1,6 @@
 -- The tests of the nanoseconds, then the times. Assumes nothing.
 use mathlib.Core.Path.{ap}
 use mathlib.Core.Bool.{or-true}
-use borrow.Author.Rules.{rules}
 use borrow.Author.Tests.{lt-ltb, le-ltb}
 use Rattle.rule.specs.Refusals.{number}
 use Rattle.authinfo.specs.Expiry.{decides, expiry_says, expiry, expiry_over, over_nanoseconds, is_expired}

@@ -2,7 +2,6 @@
 use mathlib.Core.Path.{refl, sym, ap, ◌∙◌}
 use Rattle.authinfo.specs.Places.{action_here}
 use Rattle.authinfo.proofs.ReadingLaws.{action_by}
-use borrow.Author.Rules.{rules}
 use Rattle.authinfo.proofs.words.action_at.Goals as goal
 
 pub returns-in_default : goal.returns-in_default

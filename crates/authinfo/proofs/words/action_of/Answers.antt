@@ -1,7 +1,6 @@
 -- By the comparisons. Assumes nothing.
 use mathlib.Core.Path.{refl, sym, ◌∙◌}
 use Rattle.authinfo.proofs.OnePassLaws.{action_word}
-use borrow.Author.Rules.{rules}
 use Rattle.authinfo.proofs.words.action_of.Goals as goal
 
 pub returns-then-same : goal.returns-then-same

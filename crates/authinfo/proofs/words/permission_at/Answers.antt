@@ -2,7 +2,6 @@
 use mathlib.Core.Path.{refl, sym, ap, ◌∙◌}
 use Rattle.authinfo.specs.Places.{permission_here}
 use Rattle.authinfo.proofs.ReadingLaws.{permission_by}
-use borrow.Author.Rules.{rules}
 use Rattle.authinfo.proofs.words.permission_at.Goals as goal
 
 pub returns-in_default : goal.returns-in_default

@@ -3,7 +3,6 @@ use native.Mathlib.Omega.{arith}
 use mathlib.Core.Path.{sym, ◌∙◌}
 use Rattle.json_text.proofs.PlainLaws.{Plain, plain_string}
 use Rattle.authinfo.proofs.OnePassLaws.{permission_plain}
-use borrow.Author.Rules.{rules}
 use Rattle.authinfo.proofs.words.permission_here.Goals as goal
 
 pub overflow_add-at : goal.overflow_add-at

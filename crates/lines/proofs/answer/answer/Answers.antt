@@ -1,11 +1,9 @@
 -- A line that is too long or no document has no call; else the call is that of its form. Assumes nothing.
 use mathlib.Core.Path.{refl, sym, ap, ◌∙◌}
-use mathlib.Core.Bool.{not, not-not}
 use Rattle.lines.specs.Reading.{form_here}
 use Rattle.reader.specs.declared.Fields.{Fields}
 use Rattle.lines.specs.declared.Form.TheVariants.{Connect, Subscribe, Publish, Connected, Disconnected, Ended}
 use Rattle.lines.proofs.AnswerLaws.{call_as, Called, called, long_line, no_document, none_said, unknown-none, known_said, connect_done, subscribe_done, publish_done}
-use borrow.Author.Rules.{rules}
 use Rattle.lines.proofs.answer.answer.Goals as goal
 
 pub returns-then-line-gt-LINE : goal.returns-then-line-gt-LINE

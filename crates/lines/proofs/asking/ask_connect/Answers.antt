@@ -7,7 +7,6 @@ use Rattle.reader.specs.Reader.{fields_here}
 use Rattle.lines.proofs.ElementLaws.{zeros}
 use Rattle.lines.proofs.AskerLaws.{Asks, eighth_is, asker_told, asker_bad, id_within}
 use Rattle.lines.proofs.AskingLaws.{connect_more, connect_bad, connect_any, connect_asks}
-use borrow.Author.Rules.{rules}
 use Rattle.lines.proofs.asking.ask_connect.Goals as goal
 
 pub returns-in_default : goal.returns-in_default

@@ -8,7 +8,6 @@ use Rattle.lines.specs.Reading.{string_from}
 use Rattle.lines.proofs.ElementLaws.{zeros}
 use Rattle.lines.proofs.AskerLaws.{Asks, ninth_is, asker_told, asker_bad, id_within, topic_told, topic_wrong}
 use Rattle.lines.proofs.AskingLaws.{topic_more, topic_unasked, topic_absent, topic_asks}
-use borrow.Author.Rules.{rules}
 use Rattle.lines.proofs.asking.ask_topic.Goals as goal
 
 pub returns-in_default : goal.returns-in_default

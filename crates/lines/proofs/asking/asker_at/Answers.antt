@@ -1,7 +1,6 @@
 -- Each part as its function answers, each buffer as that leaves it. Assumes nothing.
 use mathlib.Core.Path.{◌∙◌}
 use Rattle.lines.proofs.AskerLaws.{asker_here_lem}
-use borrow.Author.Rules.{rules}
 use Rattle.lines.proofs.asking.asker_at.Goals as goal
 
 pub returns : goal.returns

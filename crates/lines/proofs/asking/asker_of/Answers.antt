@@ -1,7 +1,6 @@
 -- What was read is right part by part, and each part that isn't ends it. Assumes nothing.
 use Rattle.lines.specs.Reading.{with_id, with_texts, with_protocol}
 use Rattle.lines.proofs.AskerLaws.{no_id}
-use borrow.Author.Rules.{rules}
 use Rattle.lines.proofs.asking.asker_of.Goals as goal
 
 pub returns-in_default : goal.returns-in_default

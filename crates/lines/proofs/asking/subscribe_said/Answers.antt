@@ -1,7 +1,6 @@
 -- Each arm computes. Assumes nothing.
 use Rattle.lines.specs.Said.{reply_said, decision_said, connected, refused_with}
 use Rattle.questions.specs.Answers.{subscribe_says}
-use borrow.Author.Rules.{rules}
 use Rattle.lines.proofs.asking.subscribe_said.Goals as goal
 
 pub returns-in-Kept : goal.returns-in-Kept

@@ -1,7 +1,6 @@
 -- Each arm asks its question. Assumes nothing.
 use mathlib.Core.Path.{ap, ◌∙◌}
 use Rattle.lines.specs.Said.{reply_said}
-use borrow.Author.Rules.{rules}
 use Rattle.lines.proofs.asking.topic_said.Goals as goal
 
 pub returns-then-publishing : goal.returns-then-publishing

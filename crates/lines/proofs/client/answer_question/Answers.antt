@@ -5,7 +5,6 @@ use Rattle.lines.specs.Reading.{form_here}
 use Rattle.reader.specs.declared.Fields.{Fields}
 use Rattle.lines.specs.declared.Form.{Form}
 use Rattle.lines.proofs.ClientLaws.{question_as, question_is, other_form, unasked}
-use borrow.Author.Rules.{rules}
 use Rattle.lines.proofs.client.answer_question.Goals as goal
 
 pub returns-in-Subscribe : goal.returns-in-Subscribe

@@ -3,7 +3,6 @@ use mathlib.Core.Path.{sym, ◌∙◌}
 use Rattle.rule.proofs.DecodeLaws.{decoded_length}
 use Rattle.lines.proofs.ElementLaws.{zeros, roomy}
 use Rattle.lines.proofs.ClientLaws.{unasked, asked, publish_more, publish_bad, publish_no_retain, publish_no_disconnect, publish_no_topic, publish-is}
-use borrow.Author.Rules.{rules}
 use Rattle.lines.proofs.client.ask_publish.Goals as goal
 
 pub returns-in_default : goal.returns-in_default

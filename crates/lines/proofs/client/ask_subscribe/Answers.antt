@@ -3,7 +3,6 @@ use mathlib.Core.Path.{sym, ◌∙◌}
 use Rattle.rule.proofs.DecodeLaws.{decoded_length}
 use Rattle.lines.proofs.ElementLaws.{zeros, roomy}
 use Rattle.lines.proofs.ClientLaws.{unasked, asked, subscribe_more, subscribe_bad, subscribe_no_topic, subscribe-is}
-use borrow.Author.Rules.{rules}
 use Rattle.lines.proofs.client.ask_subscribe.Goals as goal
 
 pub returns-in_default : goal.returns-in_default

@@ -1,9 +1,7 @@
 -- Both lines are arrays, and the first is a client, or it is refused; else the question is answered. Assumes nothing.
-use mathlib.Core.Path.{sym, ap, ◌∙◌}
-use mathlib.Core.Bool.{not, not-not}
+use mathlib.Core.Path.{sym, ◌∙◌}
 use Rattle.lines.proofs.ElementLaws.{zeros, roomy}
 use Rattle.lines.proofs.ClientLaws.{array_line, no_header, bad_header, no_line, client_asks, header_told, header_bad, id_within}
-use borrow.Author.Rules.{rules}
 use Rattle.lines.proofs.client.client_answer.Goals as goal
 
 pub returns-then-not-is_array : goal.returns-then-not-is_array

@@ -1,7 +1,6 @@
 -- What was read is right part by part, and each part that isn't ends it. Assumes nothing.
 use Rattle.lines.specs.Reading.{nothing_at, with_truth, with_name}
 use Rattle.lines.proofs.ClientLaws.{no_id}
-use borrow.Author.Rules.{rules}
 use Rattle.lines.proofs.client.client_of.Goals as goal
 
 pub returns-in_default : goal.returns-in_default

@@ -1,9 +1,6 @@
 -- Each test in its order; at last the kind of the value that comes first. Assumes nothing.
-use mathlib.Core.Path.{sym, ap, ◌∙◌}
-use mathlib.Core.Bool.{not, not-not}
-use mathlib.Core.List.{[], ◌∷◌}
+use mathlib.Core.Path.{sym, ◌∙◌}
 use Rattle.lines.proofs.ClientLaws.{long_array, no_document, array-first, other_first}
-use borrow.Author.Rules.{rules}
 use Rattle.lines.proofs.client.is_array.Goals as goal
 
 pub returns-then-line-gt-LINE : goal.returns-then-line-gt-LINE

@@ -1,6 +1,5 @@
 -- The number of its cause computes. Assumes nothing.
 use Rattle.rule.specs.Refusals.{number}
-use borrow.Author.Rules.{rules}
 use Rattle.lines.proofs.client.no_question.Goals as goal
 
 pub returns : goal.returns

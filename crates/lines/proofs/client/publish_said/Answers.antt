@@ -2,7 +2,6 @@
 use Rattle.lines.specs.Said.{refused_with}
 use Rattle.lines.specs.Client.{reply_said, decision_said}
 use Rattle.authinfo.specs.Answers.{publish_says}
-use borrow.Author.Rules.{rules}
 use Rattle.lines.proofs.client.publish_said.Goals as goal
 
 pub returns-then-disconnect : goal.returns-then-disconnect

@@ -4,7 +4,6 @@ use mathlib.Core.Bool.{Bool, cond}
 use Rattle.json_text.specs.declared.Found.TheVariants.{Is}
 use Rattle.rule.specs.Members.{number_from}
 use Rattle.lines.specs.Reading.{earlier_from}
-use borrow.Author.Rules.{rules}
 use Rattle.lines.proofs.elements.earlier_at.Goals as goal
 
 pub returns-then-is_null : goal.returns-then-is_null

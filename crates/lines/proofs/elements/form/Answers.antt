@@ -1,7 +1,6 @@
 -- Each return has the tests of `form_here` that led there. Assumes nothing.
 use mathlib.Core.Path.{refl, sym, ◌∙◌}
 use Rattle.lines.proofs.ReadingLaws.{form_by}
-use borrow.Author.Rules.{rules}
 use Rattle.lines.proofs.elements.form.Goals as goal
 
 pub returns-then-is_word : goal.returns-then-is_word

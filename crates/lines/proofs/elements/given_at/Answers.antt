@@ -3,7 +3,6 @@ use mathlib.Core.Path.{refl, sym, ◌∙◌}
 use lib.ListN.{length}
 use Rattle.lines.specs.Reading.{given_by}
 use Rattle.lines.proofs.ReadingLaws.{given_by_lem}
-use borrow.Author.Rules.{rules}
 use Rattle.lines.proofs.elements.given_at.Goals as goal
 
 pub returns-then-is_null : goal.returns-then-is_null

@@ -2,7 +2,6 @@
 use mathlib.Core.Path.{sym, ap, ◌∙◌}
 use Rattle.lines.specs.Reading.{is_null_word, null_from}
 use Rattle.lines.proofs.ReadingLaws.{not_null}
-use borrow.Author.Rules.{rules}
 use Rattle.lines.proofs.elements.is_null.Goals as goal
 
 pub returns-in_default : goal.returns-in_default

@@ -2,7 +2,6 @@
 use mathlib.Core.Path.{sym, ap, ◌∙◌}
 use Rattle.json_text.specs.declared.Place.{Place}
 use Rattle.lines.specs.Reading.{word_from}
-use borrow.Author.Rules.{rules}
 use Rattle.lines.proofs.elements.is_word.Goals as goal
 
 pub returns-in-At : goal.returns-in-At

@@ -7,7 +7,6 @@ use Rattle.rule.specs.declared.Protocol.TheVariants.{Is as ProtocolIs}
 use Rattle.lines.specs.Reading.{protocol_by}
 use Rattle.lines.specs.declared.ProtocolRead.TheVariants.{Is as ReadProtocol, Bad as BadProtocol}
 use Rattle.lines.proofs.ReadingLaws.{protocol_by_lem}
-use borrow.Author.Rules.{rules}
 use Rattle.lines.proofs.elements.protocol_at.Goals as goal
 
 pub returns-then-is_null : goal.returns-then-is_null

@@ -4,7 +4,6 @@ use lib.ListN.{length}
 use Rattle.json_text.specs.Access.{copied, decoded_into}
 use Rattle.json_text.specs.declared.Place.{Place}
 use Rattle.lines.specs.Reading.{string_from}
-use borrow.Author.Rules.{rules}
 use Rattle.lines.proofs.elements.text_at.Goals as goal
 
 pub returns-in-At : goal.returns-in-At

@@ -3,7 +3,6 @@ use mathlib.Core.Path.{sym, ap, ◌∙◌}
 use Rattle.events.specs.Event as event
 use Rattle.events.specs.declared.EventAnswer.{EventAnswer}
 use Rattle.lines.specs.Said.{cause_said}
-use borrow.Author.Rules.{rules}
 use Rattle.lines.proofs.happening.event_said.Goals as goal
 
 pub returns-in-Done : goal.returns-in-Done

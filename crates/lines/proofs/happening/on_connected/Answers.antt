@@ -8,7 +8,6 @@ use Rattle.rule.proofs.DecodeLaws.{decoded_length}
 use Rattle.lines.specs.Call.{connected_in}
 use Rattle.lines.proofs.ElementLaws.{zeros, roomy}
 use Rattle.lines.proofs.HappeningLaws.{no_call, event_call, connected_more, connected_bad, connected_no_id, connected_no_name, connected_is}
-use borrow.Author.Rules.{rules}
 use Rattle.lines.proofs.happening.on_connected.Goals as goal
 
 pub returns-in_default : goal.returns-in_default

@@ -7,7 +7,6 @@ use Rattle.rule.proofs.DecodeLaws.{decoded_length}
 use Rattle.lines.specs.Call.{disconnected_in}
 use Rattle.lines.proofs.ElementLaws.{zeros, roomy}
 use Rattle.lines.proofs.HappeningLaws.{no_call, event_call, disconnected_more, disconnected_bad, disconnected_no_id, disconnected_is}
-use borrow.Author.Rules.{rules}
 use Rattle.lines.proofs.happening.on_disconnected.Goals as goal
 
 pub returns-in_default : goal.returns-in_default

@@ -3,7 +3,6 @@ use Rattle.events.specs.Event as event
 use mathlib.Core.Path.{sym, ◌∙◌}
 use Rattle.lines.specs.Call.{ended_in}
 use Rattle.lines.proofs.HappeningLaws.{no_call, event_call, ended_more, ended_bad, ended_is}
-use borrow.Author.Rules.{rules}
 use Rattle.lines.proofs.happening.on_ended.Goals as goal
 
 pub returns-in_default : goal.returns-in_default

@@ -1,7 +1,6 @@
 -- Each `return` computes, by the tests that led there. Assumes nothing.
 use borrow.Author.Tests.{eq-eqb, ne_eqb, lt-ltb, le-ltb}
 use Rattle.lines.specs.Input.{taken, kept}
-use borrow.Author.Rules.{rules}
 use Rattle.lines.proofs.input.take_byte.Goals as goal
 
 pub returns-then-long : goal.returns-then-long

@@ -5,7 +5,6 @@ use mathlib.Core.Logic.{⊎_elim}
 use lib.Dec.{eqb}
 use borrow.Author.Tests.{lt-ltb, le-ltb, ne_eqb}
 use Rattle.lines.specs.Input.{rules_taken, rules_kept}
-use borrow.Author.Rules.{rules}
 use Rattle.lines.proofs.input.take_rule_byte.Goals as goal
 
 pub returns-then-fresh : goal.returns-then-fresh

@@ -2,7 +2,6 @@
 use mathlib.Core.Path.{refl, ◌∙◌}
 use native.Mathlib.Omega.{arith}
 use Rattle.text.proofs.Laws.{pasted_fits}
-use borrow.Author.Rules.{rules}
 use Rattle.lines.proofs.output.append.Goals as goal
 
 pub returns : goal.returns

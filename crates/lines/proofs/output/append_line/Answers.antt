@@ -1,6 +1,5 @@
 -- A blank and the number behind it are the line's text in one piece (`line_put`). Assumes nothing.
 use Rattle.lines.proofs.OutputLaws.{no_line_put, blank_fits, number_fits, line_put}
-use borrow.Author.Rules.{rules}
 use Rattle.lines.proofs.output.append_line.Goals as goal
 
 pub append-behind-requires : goal.append-behind-requires

@@ -4,7 +4,6 @@ use native.Mathlib.Omega.{arith}
 use lib.ListN.{length}
 use Rattle.lines.specs.declared.Word.{Word}
 use Rattle.lines.specs.Output.{word_text}
-use borrow.Author.Rules.{rules}
 use Rattle.lines.proofs.output.append_word.Goals as goal
 
 pub append-requires : goal.append-requires

@@ -1,6 +1,5 @@
 -- What `says` ensures of error 5. Assumes nothing.
 use Rattle.lines.specs.Said.{malformed}
-use borrow.Author.Rules.{rules}
 use Rattle.lines.proofs.output.malformed.Goals as goal
 
 pub returns : goal.returns

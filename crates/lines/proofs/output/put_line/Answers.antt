@@ -1,7 +1,6 @@
 -- The line that `compose` writes is put where `paste` finds room for it. Assumes nothing.
 use native.Mathlib.Omega.{arith}
 use Rattle.lines.proofs.OutputLaws.{front_within, front_length, end_within, line_fits, line_not}
-use borrow.Author.Rules.{rules}
 use Rattle.lines.proofs.output.put_line.Goals as goal
 
 pub slice_bounds-line-end : goal.slice_bounds-line-end

@@ -2,7 +2,6 @@
 use mathlib.Core.Path.{◌∙◌, ap}
 use Rattle.lines.specs.Said.{says}
 use Rattle.lines.specs.declared.Word.TheVariants.{Error}
-use borrow.Author.Rules.{rules}
 use Rattle.lines.proofs.output.refused.Goals as goal
 
 pub returns : goal.returns

@@ -1,6 +1,5 @@
 -- The record that is built is the one that is said, by what `refusal_number` ensures. Assumes nothing.
 use Rattle.lines.specs.Said.{refused_at}
-use borrow.Author.Rules.{rules}
 use Rattle.lines.proofs.output.refused_at.Goals as goal
 
 pub returns : goal.returns
