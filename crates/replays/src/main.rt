@@ -2,9 +2,8 @@
 #![tactic(auto)]
 
 use std::fs::File;
-use std::io;
 use std::rt::Files;
-use std::str;
+use std::{io, str};
 use streams::deciding::decide;
 
 // One input, if there is a file with this number.
