@@ -62,6 +62,7 @@ module _ {A : Type 0} where
 
     module _ (R : A → A → Type 0) where
       before : (front : List A) → Ordered R (front ++ (a ∷ back)) → (b : A) → Memᴰ b front → R b a
+      before [] o b m = elim m [ ]
       before (x ∷ front) o b (Memᴰ.head e) = subst (λ c. R c a) (sym e) (o.0 a (Memᴰ.append_right front (Memᴰ.head refl)))
       before (x ∷ front) o b (Memᴰ.tail m) = before front o.1 b m
 
@@ -152,6 +153,7 @@ ordered-map f R S (x ∷ l) h o = (
 
 in_range : (xs : List Outcome) (i : ℕ) → Memᴰ i (positions xs) → i < length xs
 unfolding positions
+in_range [] i m = elim m [ ]
 in_range (x ∷ xs) i (Memᴰ.head e) = omega arith
 in_range (x ∷ xs) i (Memᴰ.tail m) = let r = Memᴰ.of_map suc (positions xs) m in let h = in_range xs r.0 r.1 in omega (arith, r.2)
 

@@ -2,6 +2,7 @@
 // answers by its contract, or refuses by number with all lent memory unchanged. The theorem on lists of events (demand 3) stands in
 // specs/Demand3.antt and proofs/Reordering.antt, over the definitions that these contracts cite.
 #![tactic(auto)]
+
 pub use events::EventAnswer;
 pub use events::connecting::connected;
 pub use events::leaving::{disconnected, ended};

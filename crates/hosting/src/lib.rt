@@ -1,6 +1,7 @@
 // What the host of the library asks beside its calls: whether an id or a name is plain, what a rule text asks of the tables for each
 // client, and how many rows a store uses.
 #![tactic(auto)]
+
 ghost use Rattle.std.specs.Prelude.{◌≡◌, ◌≤◌, length};
 ghost use Rattle.json_text.specs.Lines.{line_at};
 ghost use Rattle.store.specs.View.{view};

@@ -34,8 +34,7 @@ pub loop-turns-preserved : goal.loop-turns-preserved
 loop-turns-preserved c =
     let onward = c.next_topic-next.ensures ∙ ap (λ (ls : List ℕ). next_topic ls c.in-At.p) (sym c.line_at-line.ensures) in
     let filter = count_small false c.topic_at-topic.result in
-    let eq = count_small true c.topic_at-topic.result in
-    (
+    let eq = count_small true c.topic_at-topic.result in (
       rw c.count_of-filters.ensures (left_step false c.line_at-line.result.now c.loop-turns.filters c.loop-turns.turns (omega arith) c.in-At.is c.topic_at-topic.ensures onward c.loop-turns.invariant.0),
       rw c.count_of-eqs.ensures (left_step true c.line_at-line.result.now c.loop-turns.eqs c.loop-turns.turns (omega arith) c.in-At.is c.topic_at-topic.ensures onward c.loop-turns.invariant.1),
       omega (arith, c.loop-turns.invariant.2),

@@ -17,6 +17,18 @@ pub loop-at-init : goal.loop-at-init
 loop-at-init c =
     marking_none _ _ _ _
 
+pub bounds-marks-i : goal.bounds-marks-i
+unfolding filter_codec
+bounds-marks-i c = omega (arith, c.loop-at.invariant.lengths, c.loop-at.invariant.passed)
+
+pub bounds-marks-i-else-row_clears : goal.bounds-marks-i-else-row_clears
+unfolding filter_codec
+bounds-marks-i-else-row_clears c = omega (arith, c.loop-at.invariant.lengths, c.loop-at.invariant.passed)
+
+pub overflow_add-i : goal.overflow_add-i
+unfolding filter_codec
+overflow_add-i c = omega (arith, c.loop-at.invariant.lengths, c.loop-at.invariant.passed)
+
 pub loop-at-preserved : goal.loop-at-preserved
 unfolding filter_codec filter_row
 loop-at-preserved c =

@@ -18,6 +18,18 @@ pub loop-at-init : goal.loop-at-init
 loop-at-init c =
     marking_none _ _ _ _
 
+pub bounds-marks-i : goal.bounds-marks-i
+unfolding numbered_codec
+bounds-marks-i c = omega (arith, c.loop-at.invariant.lengths, c.loop-at.invariant.passed)
+
+pub bounds-marks-i-else-number_at-session : goal.bounds-marks-i-else-number_at-session
+unfolding numbered_codec
+bounds-marks-i-else-number_at-session c = omega (arith, c.loop-at.invariant.lengths, c.loop-at.invariant.passed)
+
+pub overflow_add-i : goal.overflow_add-i
+unfolding numbered_codec
+overflow_add-i c = omega (arith, c.loop-at.invariant.lengths, c.loop-at.invariant.passed)
+
 pub loop-at-preserved : goal.loop-at-preserved
 unfolding numbered_codec of_session
 loop-at-preserved c =
