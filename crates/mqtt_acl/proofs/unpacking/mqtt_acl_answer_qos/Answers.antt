@@ -1,4 +1,6 @@
 -- By what is answered. Assumes nothing.
+use Prim.Native.Nat.{◌%◌}
+use native.Mathlib.Omega.{arith}
 use borrow.Author.Tests.{ne_eqb}
 use Rattle.mqtt_acl.specs.Unpacked.{parts_by, parts}
 use Rattle.mqtt_acl.proofs.unpacking.mqtt_acl_answer_qos.Goals as goal
@@ -16,4 +18,4 @@ returns-in-6 c =
 pub returns-in_default : goal.returns-in_default
 unfolding parts parts_by
 returns-in_default c =
-    rw (ne_eqb _ _ (λ e. omega arith), ne_eqb _ _ (λ e. omega arith))
+    rw (ne_eqb (c.args.answer % 16) 5 (λ e. omega arith), ne_eqb (c.args.answer % 16) 6 (λ e. omega arith))
