@@ -5,7 +5,7 @@ use mathlib.Core.Bool.{true, false, true≢false}
 use mathlib.Core.List.{List, [], ◌∷◌}
 use mathlib.Core.Option.{some}
 use native.Mathlib.Omega.{arith}
-use lib.ListN.{length, get_elem?}
+use lib.ListN.{get_elem?}
 use Rattle.events.specs.Event.{Event, after, refused}
 use Rattle.acl.specs.Demand3.{Outcome, outcomes, shares, Rearranged, Agree}
 use Rattle.acl.proofs.Reordering.{demand_3}

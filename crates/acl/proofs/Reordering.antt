@@ -16,7 +16,7 @@ use Rattle.questions.specs.Question.{Question, question_cause, Reply, refuses}
 use Rattle.questions.specs.Decision.{decide, decided, ask_view, ask}
 use Rattle.events.specs.Event.{Event, effect}
 use Rattle.events.proofs.EventLaws.{Alike, alike_refl, alike_trans, effect-alike, effect_commutes}
-use Rattle.acl.specs.Demand3.{run, Outcome, outcomes, plain_run, shares, Rearranged, Demand3, Permuted, SameRows, malformed, laid_out, Agree}
+use Rattle.acl.specs.Demand3.{run, Outcome, outcomes, plain_run, shares, Demand3, Permuted, SameRows, malformed, laid_out, Agree}
 use Rattle.acl.proofs.SharingLaws.{shares_sym, shares-apart}
 use Rattle.acl.proofs.RunLaws.{step, effects, outcomes_plain, view_run, run_malformed, run_effects}
 use Rattle.acl.proofs.Positions.{Reordered, done, more, rearranged_reordered}

@@ -14,7 +14,7 @@ use Rattle.text.specs.Ascii.{ascii}
 use Rattle.text.specs.Text.{same, begins, occurs, replace_from, replace}
 use Rattle.text.proofs.Laws.{and_split, or_split, isnt, same_itself, begins-take}
 use Rattle.topic.specs.Topic.{Level, plus, hash, levels, is_only, is_plus, is_hash, metadata, ends, takes_level, takes, dollar_rule, levels_match, levels_if, checked_levels, tree_match, valid_filter}
-use Rattle.table.specs.Table.{some_row, keep, add, add_all, adds, change}
+use Rattle.table.specs.Table.{some_row, keep, add, add_all, change}
 use Rattle.table.proofs.TableLaws.{some_keep, some_map, some_on, present, none as none_rows, none_at, none_of, member, length-keep, some_add_all}
 use Rattle.json_text.specs.Lines.{lines, line_at, next_line}
 use Rattle.json_text.specs.declared.Place.{Place}
@@ -41,7 +41,6 @@ use Rattle.store.specs.Check.{shape_of}
 use Rattle.store.specs.declared.Shape.{Shape}
 use Rattle.store.specs.declared.ShapeRead.{ShapeRead}
 use Rattle.store.specs.declared.ShapeRead.TheVariants.{LaidOut, Malformed as MalformedShape}
-use Rattle.hosting.specs.declared.Templates.{Templates}
 use Rattle.hosting.specs.declared.Used.TheVariants.{Rows, Malformed}
 use Rattle.hosting.specs.Hosting.{is_special, no_special, templates_in, templates_of, line_templates, templates, used_in}
 use Rattle.hosting.specs.Claims.{PlainFills, FilledOnce, Enough, TakesBack, depart, enter, leave, Entered, EntersAlike, LeavesAlike}

@@ -1,6 +1,6 @@
 -- Laws of the second reading: a rule's topic that is passed where it stands, a line that is known to be a rule, and lines that all are.
 -- Assumes nothing.
-use Prim.Native.Nat.{ℕ, suc, ◌+◌, ◌-◌, ◌≤◌, ◌<◌}
+use Prim.Native.Nat.{ℕ, suc, ◌+◌, ◌-◌, ◌<◌}
 use native.Mathlib.Omega.{arith}
 use mathlib.Core.Path.{◌≡◌, refl, sym, ap, subst, ◌∙◌}
 use mathlib.Core.Bool.{Bool, true, false, ◌&&◌, ◌||◌, not, cond}
@@ -10,7 +10,7 @@ use lib.Dec.{ltb}
 use lib.ListN.{length, take, drop}
 use Rattle.text.specs.Text.{same}
 use Rattle.topic.specs.Topic.{levels, levels_if, valid_filter, levels_match, checked_levels, tree_match}
-use Rattle.json_text.specs.Json.{text, separator_at, depth_limit, line_value}
+use Rattle.json_text.specs.Json.{text, depth_limit, line_value}
 use Rattle.json_text.specs.Access.{next_item}
 use Rattle.json_text.specs.Lines.{lines, line_at, line_behind, next_line}
 use Rattle.json_text.specs.declared.Place.{Place}

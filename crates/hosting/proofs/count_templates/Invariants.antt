@@ -1,16 +1,9 @@
 -- The loop's invariant: the templates counted and those of the lines from `at` on are all of each kind, and no more are counted than bytes
 -- passed. The measure is what is left of the text. Assumes nothing.
-use Prim.Native.Nat.{◌+◌, ◌-◌, ◌≤◌}
-use native.Mathlib.Omega.{arith}
-use mathlib.Core.Path.{◌≡◌, refl, sym, ap, ◌∙◌}
+use Prim.Native.Nat.{◌-◌, ◌≤◌}
 use mathlib.Core.Bool.{true, false}
 use lib.ListN.{length}
-use borrow.Author.Rules.{rules}
-use Rattle.hosting.specs.Hosting.{line_templates}
-use Rattle.json_text.proofs.LineLaws.{line_within, next_within}
-use Rattle.events.proofs.TemplateWalk.{next_less}
-use Rattle.hosting.specs.declared.Templates.{Templates}
-use Rattle.hosting.proofs.HostingLaws.{OnLines, on_first, onward_step, onward_end, both_counts, line_before}
+use Rattle.hosting.proofs.HostingLaws.{OnLines}
 use Rattle.hosting.proofs.count_templates.Given as goal
 
 abbrev pub invariant-loop-at : goal.invariant-loop-at

@@ -1,10 +1,8 @@
 -- The loop's invariant: no byte from `i` on is special exactly if none is. The measure is what is left. Assumes nothing.
 use Prim.Native.Nat.{◌-◌}
 use native.Mathlib.Omega.{arith}
-use mathlib.Core.Path.{◌≡◌, refl, sym, ap, ◌∙◌}
+use mathlib.Core.Path.{refl, sym, ap, ◌∙◌}
 use mathlib.Core.Bool.{Bool, ◌&&◌, not, and-false}
-use lib.ListN.{length, drop}
-use borrow.Author.Rules.{rules}
 use Rattle.topic.specs.Topic.{metadata}
 use Rattle.hosting.specs.Hosting.{no_special, plain_name}
 use Rattle.hosting.proofs.HostingLaws.{special_found, special_passed, special_end, begins_dollar}

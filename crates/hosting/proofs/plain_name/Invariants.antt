@@ -1,13 +1,8 @@
 -- The loop's invariant: no byte from `i` on is special exactly if none is. The measure is what is left. Assumes nothing.
 use Prim.Native.Nat.{◌-◌}
-use native.Mathlib.Omega.{arith}
-use mathlib.Core.Path.{◌≡◌, refl, sym, ap, ◌∙◌}
-use mathlib.Core.Bool.{Bool, ◌&&◌, not, and-false}
+use mathlib.Core.Path.{◌≡◌}
 use lib.ListN.{length, drop}
-use borrow.Author.Rules.{rules}
-use Rattle.topic.specs.Topic.{metadata}
-use Rattle.hosting.specs.Hosting.{no_special, plain_name}
-use Rattle.hosting.proofs.HostingLaws.{special_found, special_passed, special_end, begins_dollar}
+use Rattle.hosting.specs.Hosting.{no_special}
 use Rattle.hosting.proofs.plain_name.Given as goal
 
 abbrev pub invariant-loop-i : goal.invariant-loop-i

@@ -1,5 +1,4 @@
 -- The shape's counts. Assumes nothing.
-use borrow.Author.Rules.{rules}
 use Rattle.store.specs.View.{view}
 use Rattle.hosting.proofs.HostingLaws.{rows_told, none_told}
 use Rattle.hosting.proofs.used_rows.Goals as goal

@@ -2,7 +2,6 @@
 use mathlib.Core.Path.{◌≡◌, sym, ◌∙◌}
 use mathlib.Core.Option.{none}
 use native.Mathlib.Omega.{arith}
-use borrow.Author.Rules.{rules}
 use Rattle.rule.specs.Refusals.{number, first}
 use Rattle.rule.specs.Places.{given}
 use Rattle.store.specs.View.{view}
@@ -31,27 +30,27 @@ pub returns-in_default : goal.returns-in_default
 unfolding says number
 returns-in_default c =
     let fine : first (argument_causes (spec.connected c.args.session c.args.id.now (given c.args.name c.args.names.now))) ≡ none = arguments_fine _ _ _ c.if-id-gt-ID.false (sym c.name_over.ensures ∙ c.if-name_over.false) (omega (arith, c.if-session-ge-SESSIONS.false)) in
-    let whole = malformed_caused _ _ (fine) (sym c.shape.ensures ∙ c.in_default.is) in record { result_value = whole.0; store_after = whole.1 }
+    let whole = malformed_caused _ _ fine (sym c.shape.ensures ∙ c.in_default.is) in record { result_value = whole.0; store_after = whole.1 }
 
 pub overflow_add-text_end : goal.overflow_add-text_end
 overflow_add-text_end c =
     let seen : Seen (view c.args.store.now) c.in-LaidOut.shape = seen_as (view c.args.store.now) c.in-LaidOut.shape (sym c.shape.ensures ∙ c.in-LaidOut.is) in
-    omega (arith, text_fits _ _ (seen))
+    omega (arith, text_fits _ _ seen)
 
 pub slice_bounds-over_filled-end : goal.slice_bounds-over_filled-end
 slice_bounds-over_filled-end c =
     let seen : Seen (view c.args.store.now) c.in-LaidOut.shape = seen_as (view c.args.store.now) c.in-LaidOut.shape (sym c.shape.ensures ∙ c.in-LaidOut.is) in
-    text_within _ _ (seen)
+    text_within _ _ seen
 
 pub returns-then-over_filled : goal.returns-then-over_filled
 unfolding says number
 returns-then-over_filled c =
     let seen : Seen (view c.args.store.now) c.in-LaidOut.shape = seen_as (view c.args.store.now) c.in-LaidOut.shape (sym c.shape.ensures ∙ c.in-LaidOut.is) in
     let fine : first (argument_causes (spec.connected c.args.session c.args.id.now (given c.args.name c.args.names.now))) ≡ none = arguments_fine _ _ _ c.if-id-gt-ID.false (sym c.name_over.ensures ∙ c.if-name_over.false) (omega (arith, c.if-session-ge-SESSIONS.false)) in
-    let whole = over_caused _ _ (seen) _ _ _ (fine) (sym c.over_filled.ensures ∙ c.if-over_filled.true) in record { result_value = whole.0; store_after = whole.1 }
+    let whole = over_caused _ _ seen _ _ _ fine (sym c.over_filled.ensures ∙ c.if-over_filled.true) in record { result_value = whole.0; store_after = whole.1 }
 
 pub fill_tables-requires : goal.fill_tables-requires
 fill_tables-requires c =
     let fine : first (argument_causes (spec.connected c.args.session c.args.id.now (given c.args.name c.args.names.now))) ≡ none = arguments_fine _ _ _ c.if-id-gt-ID.false (sym c.name_over.ensures ∙ c.if-name_over.false) (omega (arith, c.if-session-ge-SESSIONS.false)) in
     let seen : Seen (view c.args.store.now) c.in-LaidOut.shape = seen_as (view c.args.store.now) c.in-LaidOut.shape (sym c.shape.ensures ∙ c.in-LaidOut.is) in
-    record { store_value = sym c.shape.ensures ∙ c.in-LaidOut.is; names_value = fine; names_value_2 = not_over _ _ (seen) _ _ (sym c.over_filled.ensures ∙ c.if-over_filled.false) }
+    record { store_value = sym c.shape.ensures ∙ c.in-LaidOut.is; names_value = fine; names_value_2 = not_over _ _ seen _ _ (sym c.over_filled.ensures ∙ c.if-over_filled.false) }

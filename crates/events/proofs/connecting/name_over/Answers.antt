@@ -1,6 +1,5 @@
 -- `events::connecting::name_over` meets its contract: a name that is said to be longer than what was lent is all of that. Assumes nothing.
 use native.Mathlib.Omega.{arith}
-use borrow.Author.Rules.{rules}
 use Rattle.rule.specs.Places.{given}
 use Rattle.events.specs.Event.{over_name}
 use Rattle.events.proofs.PushLaws.{name_over, name_within}

@@ -4,11 +4,7 @@
 -- behind, fills to a text over 256 exactly if one of all does. The measure is `turns`. Assumes nothing.
 use Prim.Native.Nat.{◌-◌}
 use mathlib.Core.Path.{refl}
-use native.Mathlib.Omega.{arith}
-use borrow.Author.Rules.{rules}
-use lib.ListN.{length}
-use Rattle.rule.specs.Places.{given}
-use Rattle.events.proofs.TemplateWalk.{next_less, OverOn, OverIn, over_start, over_line, over_nowhere, over_next, over_is, over_not, over_found, over_onward, over_done}
+use Rattle.events.proofs.TemplateWalk.{next_less, over_start, over_line, over_nowhere, over_next, over_is, over_not, over_found, over_onward, over_done}
 use Rattle.events.proofs.connecting.over_filled.Goals as goal
 
 pub loop-at-init : goal.loop-at-init

@@ -13,7 +13,7 @@ use Rattle.json_text.proofs.LineLaws.{next_after}
 use Rattle.rule.specs.Places.{given}
 use Rattle.events.specs.Pushes.{topic_bytes}
 use Rattle.events.proofs.PushLaws.{topic_long}
-use Rattle.events.proofs.ConnectLaws.{rules, Room, rules-length, length_kept, room_kept, rules_kept, rules_lent, AtLine, AtTopic, AtRow, line_start, line_done, rule_fits, topic_start, line_next, line_full, topic_none, topic_row, row_present, row_added, row_room}
+use Rattle.events.proofs.ConnectLaws.{rules, Room, rules-length, length_kept, room_kept, rules_kept, rules_lent, AtRow, line_start, line_done, rule_fits, topic_start, line_next, line_full, topic_none, topic_row, row_present, row_added, row_room}
 use Rattle.events.proofs.connecting.push_all.Goals as goal
 
 room_of : {end from to : ℕ} (s : List ℕ) → (16 ≤ end) × (end ≤ from) × (from ≤ to) × (to ≤ length s) → Room end from to s

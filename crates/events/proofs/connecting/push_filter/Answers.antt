@@ -1,7 +1,6 @@
 -- `events::connecting::push_filter` meets its contract. Assumes nothing.
 use mathlib.Core.Path.{sym, ◌∙◌}
 use Rattle.events.proofs.PushLaws.{pushes_none, no_filter_bytes, pushes_filter}
-use borrow.Author.Rules.{rules}
 use Rattle.events.proofs.connecting.push_filter.Goals as goal
 
 pub returns-then-not-valid_filter : goal.returns-then-not-valid_filter

@@ -1,6 +1,5 @@
 -- `events::connecting::push_numbered` meets its contract. Assumes nothing.
 use Rattle.events.proofs.PushLaws.{pushes_numbered}
-use borrow.Author.Rules.{rules}
 use Rattle.events.proofs.connecting.push_numbered.Goals as goal
 
 pub returns : goal.returns

@@ -1,7 +1,6 @@
 -- `events::connecting::push_topic` meets its contract: each arm is the row that its topic is in its table, or none. Assumes nothing.
 use mathlib.Core.Path.{◌∙◌}
 use Rattle.events.proofs.PushLaws.{pushes_as, pushes_none, no_topic, filter_topic, eq_topic, filters_filter, eqs_filter, notes_filter, filters_eq, eqs_eq, notes_eq}
-use borrow.Author.Rules.{rules}
 use Rattle.events.proofs.connecting.push_topic.Goals as goal
 
 pub returns-in-Filters : goal.returns-in-Filters

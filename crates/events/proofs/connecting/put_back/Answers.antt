@@ -2,7 +2,6 @@
 use Prim.Native.Nat.{◌≤◌}
 use native.Mathlib.Omega.{arith}
 use Rattle.events.proofs.PushLaws.{places, back_short, put_parts}
-use borrow.Author.Rules.{rules}
 use Rattle.events.proofs.connecting.put_back.Goals as goal
 
 pub returns-then-store-end : goal.returns-then-store-end

@@ -1,7 +1,6 @@
 -- `events::leaving::disconnected` meets its contract. A store that has a shape is the layout of a view; the client's filter rows that a note of
 -- the session clears are marked and removed, and what is left is laid out again. Assumes nothing.
 use native.Mathlib.Omega.{arith}
-use borrow.Author.Rules.{rules}
 use lib.ListN.{length-take, length-drop}
 use Rattle.store.specs.Store.{store_length}
 use Rattle.store.specs.Layout.{filters_at, eqs_at, notes_at}

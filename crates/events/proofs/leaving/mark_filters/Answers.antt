@@ -3,13 +3,10 @@
 use Prim.Native.Nat.{◌-◌}
 use mathlib.Core.Path.{sym, ◌∙◌}
 use native.Mathlib.Omega.{arith}
-use borrow.Author.Rules.{rules}
-use lib.ListN.{length}
 use Rattle.store.specs.Layout.{filter_codec}
 use Rattle.store.proofs.PartLaws.{rows_from}
-use Rattle.events.specs.Event.{cleared}
-use Rattle.events.specs.Marks.{filter_row, filter_rows_in, note_rows_in}
-use Rattle.events.proofs.LeaveLaws.{Marking, marking_none, marking_more, marking_end}
+use Rattle.events.specs.Marks.{filter_row, filter_rows_in}
+use Rattle.events.proofs.LeaveLaws.{marking_none, marking_more, marking_end}
 use Rattle.events.proofs.leaving.mark_filters.Goals.{then-row_clears, else-row_clears}
 use Rattle.events.proofs.leaving.mark_filters.Goals as goal
 

@@ -1,15 +1,11 @@
 -- `events::leaving::mark_filters` meets its contract. The loop's invariant: `i` rows are passed, up to `at`, within the part, and once the rows
 -- from `at` on are marked too the marks are those of all rows. The measure is what is left of the part. Assumes nothing.
 use Prim.Native.Nat.{◌-◌}
-use mathlib.Core.Path.{sym, ◌∙◌}
-use native.Mathlib.Omega.{arith}
-use borrow.Author.Rules.{rules}
 use lib.ListN.{length}
 use Rattle.store.specs.Layout.{filter_codec}
-use Rattle.store.proofs.PartLaws.{rows_from}
 use Rattle.events.specs.Event.{cleared}
-use Rattle.events.specs.Marks.{filter_row, filter_rows_in, note_rows_in}
-use Rattle.events.proofs.LeaveLaws.{Marking, marking_none, marking_more, marking_end}
+use Rattle.events.specs.Marks.{note_rows_in}
+use Rattle.events.proofs.LeaveLaws.{Marking}
 use Rattle.events.proofs.leaving.mark_filters.Given as goal
 
 abbrev pub invariant-loop-at : goal.invariant-loop-at

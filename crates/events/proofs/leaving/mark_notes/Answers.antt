@@ -3,14 +3,12 @@
 use Prim.Native.Nat.{◌-◌}
 use mathlib.Core.Path.{sym, ◌∙◌}
 use native.Mathlib.Omega.{arith}
-use borrow.Author.Rules.{rules}
 use borrow.Author.Tests.{eq-eqb, ne_eqb}
-use lib.ListN.{length}
-use Rattle.store.specs.Layout.{numbered_codec, note_codec}
+use Rattle.store.specs.Layout.{numbered_codec}
 use Rattle.store.proofs.PartLaws.{rows_from}
 use Rattle.events.specs.Event.{of_session}
 use Rattle.events.specs.Marks.{note_rows_in}
-use Rattle.events.proofs.LeaveLaws.{Marking, marking_none, marking_more, marking_end}
+use Rattle.events.proofs.LeaveLaws.{marking_none, marking_more, marking_end}
 use Rattle.events.proofs.leaving.mark_notes.Goals.{then-number_at-session, else-number_at-session}
 use Rattle.events.proofs.leaving.mark_notes.Goals as goal
 

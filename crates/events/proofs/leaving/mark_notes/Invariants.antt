@@ -1,16 +1,10 @@
 -- `events::leaving::mark_notes` meets its contract. The loop's invariant: `i` rows are passed, up to `at`, within the part, and once the rows
 -- from `at` on are marked too the marks are those of all rows. The measure is what is left of the part. Assumes nothing.
 use Prim.Native.Nat.{◌-◌}
-use mathlib.Core.Path.{sym, ◌∙◌}
-use native.Mathlib.Omega.{arith}
-use borrow.Author.Rules.{rules}
-use borrow.Author.Tests.{eq-eqb, ne_eqb}
 use lib.ListN.{length}
-use Rattle.store.specs.Layout.{numbered_codec, note_codec}
-use Rattle.store.proofs.PartLaws.{rows_from}
+use Rattle.store.specs.Layout.{note_codec}
 use Rattle.events.specs.Event.{of_session}
-use Rattle.events.specs.Marks.{note_rows_in}
-use Rattle.events.proofs.LeaveLaws.{Marking, marking_none, marking_more, marking_end}
+use Rattle.events.proofs.LeaveLaws.{Marking}
 use Rattle.events.proofs.leaving.mark_notes.Given as goal
 
 abbrev pub invariant-loop-at : goal.invariant-loop-at

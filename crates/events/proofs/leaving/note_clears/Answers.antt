@@ -1,14 +1,10 @@
 -- `events::leaving::note_clears` meets its contract. The loop's invariant: `at` is at most the part's length, and one of the notes from `at` on
 -- clears the filter if and only if one of all does. The measure is what is left of the part. Assumes nothing.
-use Prim.Native.Nat.{◌-◌, ◌≤◌}
-use mathlib.Core.Path.{◌≡◌, refl, sym, ◌∙◌}
+use Prim.Native.Nat.{◌-◌}
+use mathlib.Core.Path.{refl, sym, ◌∙◌}
 use native.Mathlib.Omega.{arith}
-use borrow.Author.Rules.{rules}
-use lib.ListN.{length}
-use Rattle.table.specs.Table.{some_row}
 use Rattle.store.specs.Layout.{numbered_codec, note_codec}
 use Rattle.store.proofs.PartLaws.{rows_from, some_more, some_none}
-use Rattle.events.specs.Event.{clears}
 use Rattle.events.specs.Marks.{note_rows_in}
 use Rattle.events.proofs.LeaveLaws.{note_other, note_own}
 use Rattle.events.proofs.leaving.note_clears.Goals as goal

@@ -1,5 +1,4 @@
 -- `events::leaving::row_clears` meets its contract: a row of another owner stays, and of the client's the notes decide. Assumes nothing.
-use borrow.Author.Rules.{rules}
 use Rattle.events.proofs.LeaveLaws.{row-owned, row_other}
 use Rattle.events.proofs.leaving.row_clears.Goals as goal
 

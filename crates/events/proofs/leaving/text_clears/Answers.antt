@@ -1,7 +1,6 @@
 -- By its tests: texts that begin apart, T of the note's levels, and the note's validity. Assumes nothing.
 use mathlib.Core.Path.{sym, ◌∙◌}
 use mathlib.Core.Bool.{and-false, and-true}
-use borrow.Author.Rules.{rules}
 use Rattle.topic.specs.Topic.{valid_filter}
 use Rattle.events.proofs.LeaveLaws.{text_apart, text_known}
 use Rattle.events.proofs.leaving.text_clears.Goals as goal

@@ -1,7 +1,6 @@
 -- `events::templates::fill_topic` meets its contract: by what `topic_at` answers, since the text of the topic stands at its place.
 -- Assumes nothing.
 use mathlib.Core.Bool.{true, false}
-use borrow.Author.Rules.{rules}
 use Rattle.rule.specs.Places.{given}
 use Rattle.events.proofs.TemplateWalk.{fills_template, fills_none}
 use Rattle.events.proofs.templates.fill_topic.Goals as goal

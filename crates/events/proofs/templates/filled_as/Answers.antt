@@ -1,6 +1,5 @@
 -- `events::templates::filled_as` meets its contract: by what was filled, and by the kind. Assumes nothing.
 use mathlib.Core.Path.{sym, ap, ap₂}
-use borrow.Author.Rules.{rules}
 use Rattle.events.specs.Templates.{filled_as}
 use Rattle.events.proofs.templates.filled_as.Goals as goal
 

@@ -1,6 +1,5 @@
 -- `events::templates::first_topic` meets its contract: by what `read_rule` answers. Assumes nothing.
 use mathlib.Core.Path.{sym, ap, ◌∙◌}
-use borrow.Author.Rules.{rules}
 use Rattle.events.specs.Templates.{first_of, first_topic}
 use Rattle.events.proofs.TemplateWalk.{first_by, first_by_lem}
 use Rattle.events.proofs.templates.first_topic.Goals as goal

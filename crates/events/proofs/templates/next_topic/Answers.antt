@@ -2,7 +2,6 @@
 use Prim.Native.Nat.{ℕ}
 use mathlib.Core.List.{List}
 use mathlib.Core.Path.{ap, ◌∙◌}
-use borrow.Author.Rules.{rules}
 use Rattle.json_text.specs.Access.{next_item}
 use Rattle.events.specs.Templates.{next_topic}
 use Rattle.events.proofs.templates.next_topic.Goals as goal

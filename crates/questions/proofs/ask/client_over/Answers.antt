@@ -1,6 +1,5 @@
 -- The tests in their order are the parts of `client_over`. Assumes nothing.
 use mathlib.Core.Path.{sym, ◌∙◌}
-use borrow.Author.Rules.{rules}
 use borrow.Author.Tests.{lt-ltb, le-ltb}
 use Rattle.questions.specs.Question.{client_over}
 use Rattle.questions.proofs.ask.client_over.Goals as goal

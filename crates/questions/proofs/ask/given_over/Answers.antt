@@ -1,6 +1,5 @@
 -- Where a length is told, the text is over the limit if both the length and the slice are. Assumes nothing.
 use mathlib.Core.Path.{sym}
-use borrow.Author.Rules.{rules}
 use Rattle.questions.proofs.AskLaws.{absent_over, within_over, length_over}
 use Rattle.questions.proofs.ask.given_over.Goals as goal
 

@@ -1,6 +1,5 @@
 -- Each arm computes. Assumes nothing.
 use Rattle.questions.specs.Parts.{topics_for}
-use borrow.Author.Rules.{rules}
 use Rattle.questions.proofs.decision.asked_topics.Goals as goal
 
 pub returns-in-Connect : goal.returns-in-Connect

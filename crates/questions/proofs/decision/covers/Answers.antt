@@ -1,7 +1,6 @@
 -- Each arm computes. Assumes nothing.
 use Rattle.questions.specs.Decision.{covers}
 use Rattle.questions.specs.Parts.{wish_of, covers_asked}
-use borrow.Author.Rules.{rules}
 use Rattle.questions.proofs.decision.covers.Goals as goal
 
 pub returns-in-All : goal.returns-in-All

@@ -4,17 +4,13 @@
 -- at the most, agrees if and only if one of all does. The measure is `turns`. Assumes nothing.
 use Prim.Native.Nat.{◌-◌}
 use mathlib.Core.Path.{◌≡◌, refl, sym, ap, ◌∙◌}
-use mathlib.Core.Bool.{true, false}
+use mathlib.Core.Bool.{false}
 use native.Mathlib.Omega.{arith}
-use lib.ListN.{length, drop}
-use Rattle.json_text.specs.Access.{first_item}
-use Rattle.json_text.specs.Lines.{lines}
+use lib.ListN.{length}
 use Rattle.json_text.proofs.LineLaws.{line_within}
-use Rattle.rule.specs.Places.{given}
-use Rattle.questions.specs.Parts.{protocol_of, every_rule, some_topic_from}
-use Rattle.questions.proofs.DecisionLaws.{Walks, here, none_decides, here_less, here_differs, here_passes, all_decides, topic_decides, eq_decides, filter_decides, some_end, some_none}
+use Rattle.questions.specs.Parts.{some_topic_from}
+use Rattle.questions.proofs.DecisionLaws.{here, none_decides, here_less, here_differs, here_passes, all_decides, topic_decides, eq_decides, filter_decides, some_end, some_none}
 use Rattle.questions.proofs.PassLaws.{some_passed, every_here, next_line_lem}
-use borrow.Author.Rules.{rules}
 use Rattle.questions.proofs.decision.deciding_in.Goals.{then-rules-at, else-rules-at+in-Agrees+in-All, else-rules-at+in-Agrees+in-Listed+then-topics-test+in-At+in-Agrees-pass_topic, else-rules-at+in-Agrees+in-Listed+then-eq_row_agrees, else-rules-at+in-Agrees+in-Listed+else-eq_row_agrees+then-filter_row_agrees, else-topics-test, then-topics-test+in-Nowhere}
 use Rattle.questions.proofs.decision.deciding_in.Goals as goal
 

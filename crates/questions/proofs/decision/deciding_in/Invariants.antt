@@ -3,18 +3,14 @@
 -- rules. The measure is what is left of the text. The invariant of the loop over a line's topics: one of the topics from `next` on, of `turns`
 -- at the most, agrees if and only if one of all does. The measure is `turns`. Assumes nothing.
 use Prim.Native.Nat.{◌-◌}
-use mathlib.Core.Path.{◌≡◌, refl, sym, ap, ◌∙◌}
+use mathlib.Core.Path.{◌≡◌}
 use mathlib.Core.Bool.{true}
-use native.Mathlib.Omega.{arith}
 use lib.ListN.{length, drop}
 use Rattle.json_text.specs.Access.{first_item}
 use Rattle.json_text.specs.Lines.{lines}
-use Rattle.json_text.proofs.LineLaws.{line_within}
 use Rattle.rule.specs.Places.{given}
 use Rattle.questions.specs.Parts.{protocol_of, every_rule, some_topic_from}
-use Rattle.questions.proofs.DecisionLaws.{Walks, here, none_decides, here_less, here_differs, here_passes, all_decides, topic_decides, eq_decides, filter_decides, some_end, some_none}
-use Rattle.questions.proofs.PassLaws.{some_passed, every_here, next_line_lem}
-use borrow.Author.Rules.{rules}
+use Rattle.questions.proofs.DecisionLaws.{Walks}
 use Rattle.questions.proofs.decision.deciding_in.Given as goal
 
 abbrev pub invariant-topics : goal.invariant-topics

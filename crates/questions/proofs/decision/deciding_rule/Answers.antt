@@ -1,7 +1,6 @@
 -- Nothing is known of the lines. Assumes nothing.
 use mathlib.Core.Path.{sym}
 use mathlib.Core.Bool.{true≢false}
-use borrow.Author.Rules.{rules}
 use Rattle.questions.proofs.decision.deciding_rule.Goals as goal
 
 pub deciding_in-requires : goal.deciding_in-requires

@@ -1,7 +1,6 @@
 -- By what separates the elements. Assumes nothing.
 use mathlib.Core.Path.{sym, ◌∙◌}
 use Rattle.rule.proofs.FrontLaws.{separated, item_by}
-use borrow.Author.Rules.{rules}
 use Rattle.questions.proofs.decision.element_behind.Goals as goal
 
 pub returns-in-Comma : goal.returns-in-Comma

@@ -3,7 +3,6 @@ use mathlib.Core.Path.{refl, sym, ◌∙◌}
 use borrow.Author.Tests.{lt-ltb, le-ltb}
 use lib.ListN.{length}
 use Rattle.questions.proofs.PassLaws.{eq_text_by}
-use borrow.Author.Rules.{rules}
 use Rattle.questions.proofs.decision.eq_agrees.Goals as goal
 
 pub returns-then-not-same : goal.returns-then-not-same

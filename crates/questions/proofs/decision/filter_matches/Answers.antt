@@ -5,7 +5,6 @@ use lib.Seq.{length-take-le}
 use Rattle.json_text.specs.Strings.{string_at}
 use Rattle.rule.proofs.DecodeLaws.{decoded_length, decoded_over, decoded_none}
 use Rattle.questions.proofs.HeadLaws.{filter_copied, filter_long, filter_none}
-use borrow.Author.Rules.{rules}
 use Rattle.questions.proofs.decision.filter_matches.Goals as goal
 
 pub slice_bounds-filter-end : goal.slice_bounds-filter-end

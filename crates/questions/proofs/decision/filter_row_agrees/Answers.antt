@@ -1,15 +1,10 @@
 -- `questions::decision::filter_row_agrees` meets its contract. The loop's invariant: `at` is at most the part's length, and one of the rows
 -- from `at` on agrees if and only if one of all does. The measure is what is left of the part. Assumes nothing.
-use Prim.Native.Nat.{◌-◌, ◌≤◌}
-use mathlib.Core.Path.{◌≡◌, refl, sym, ◌∙◌}
+use Prim.Native.Nat.{◌-◌}
+use mathlib.Core.Path.{refl, sym, ◌∙◌}
 use native.Mathlib.Omega.{arith}
-use borrow.Author.Rules.{rules}
-use lib.ListN.{length}
-use Rattle.text.specs.Text.{same}
-use Rattle.table.specs.Table.{some_row}
 use Rattle.store.specs.Layout.{filter_codec}
 use Rattle.store.proofs.PartLaws.{rows_from, some_more, some_none}
-use Rattle.questions.specs.Decision.{filter_agrees}
 use Rattle.questions.specs.Parts.{filter_rows}
 use Rattle.questions.proofs.DecisionLaws.{filter_text_lem, filter_owner_lem, filter_other}
 use Rattle.questions.proofs.PassLaws.{known_match}

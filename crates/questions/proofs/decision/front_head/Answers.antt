@@ -3,7 +3,6 @@ use mathlib.Core.Path.{sym, ap, ◌∙◌}
 use Rattle.rule.proofs.FrontLaws.{front_told, rest_told}
 use Rattle.questions.specs.declared.Head.TheVariants.{Agrees}
 use Rattle.questions.proofs.PassLaws.{front_differs, front_agrees}
-use borrow.Author.Rules.{rules}
 use Rattle.questions.proofs.decision.front_head.Goals as goal
 
 pub returns-in_default-identity : goal.returns-in_default-identity

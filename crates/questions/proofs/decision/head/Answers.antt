@@ -2,7 +2,6 @@
 use mathlib.Core.Path.{refl, sym, ap, ◌∙◌}
 use Rattle.questions.specs.declared.Head.TheVariants.{Agrees}
 use Rattle.questions.proofs.HeadLaws.{head_with, head_by, head_by_lem, head_read}
-use borrow.Author.Rules.{rules}
 use Rattle.questions.proofs.decision.head.Goals as goal
 
 pub returns-in_default : goal.returns-in_default

@@ -1,6 +1,5 @@
 -- Of a line that is known to be a rule the front is read first. Assumes nothing.
 use Rattle.questions.proofs.PassLaws.{head_answered}
-use borrow.Author.Rules.{rules}
 use Rattle.questions.proofs.decision.head_of.Goals as goal
 
 pub front_head-requires : goal.front_head-requires

@@ -5,7 +5,6 @@ use Rattle.json_text.proofs.PlainLaws.{Plain, plain_string}
 use Rattle.rule.specs.Front.{EqTo}
 use Rattle.rule.proofs.OnePassLaws.{eq_to, eq_string}
 use Rattle.questions.proofs.PassLaws.{passed_plain, passed_eq}
-use borrow.Author.Rules.{rules}
 use Rattle.questions.proofs.decision.pass_topic.Goals as goal
 
 pub overflow_add-at : goal.overflow_add-at
@@ -35,7 +34,7 @@ text_agrees-requires c =
 pub returns-then-text_agrees : goal.returns-then-text_agrees
 returns-then-text_agrees c =
     let found : Plain c.args.line.now c.args.at c.in-At.end = plain_string c.args.line.now c.args.at (sym c.plain_text.ensures ∙ c.in-At.is) in
-    sym (passed_plain c.args.topic.now c.args.line.now c.args.at (found) (sym c.text_agrees.ensures ∙ c.if-text_agrees.true) refl)
+    sym (passed_plain c.args.topic.now c.args.line.now c.args.at found (sym c.text_agrees.ensures ∙ c.if-text_agrees.true) refl)
 
 pub overflow_add-end : goal.overflow_add-end
 overflow_add-end c =
@@ -45,41 +44,41 @@ overflow_add-end c =
 pub returns-in-At : goal.returns-in-At
 returns-in-At c =
     let found : Plain c.args.line.now c.args.at c.in-At.end = plain_string c.args.line.now c.args.at (sym c.plain_text.ensures ∙ c.in-At.is) in
-    sym (passed_plain c.args.topic.now c.args.line.now c.args.at (found) (sym c.text_agrees.ensures ∙ c.if-text_agrees.false) (sym c.element_behind.ensures))
+    sym (passed_plain c.args.topic.now c.args.line.now c.args.at found (sym c.text_agrees.ensures ∙ c.if-text_agrees.false) (sym c.element_behind.ensures))
 
 pub overflow_add-opens : goal.overflow_add-opens
 overflow_add-opens c =
     let under : EqTo c.args.line.now c.args.at c.in-Text-eq_text.opens c.in-Text-eq_text.closes c.in-Text-eq_text.behind = eq_to c.args.line.now c.args.at (sym c.eq_text.ensures ∙ c.in-Text-eq_text.is) in
-    let p = eq_string c.args.line.now c.args.at (under) in
+    let p = eq_string c.args.line.now c.args.at under in
     omega arith
 
 pub slice_bounds-eq_agrees-count : goal.slice_bounds-eq_agrees-count
 slice_bounds-eq_agrees-count c =
     let under : EqTo c.args.line.now c.args.at c.in-Text-eq_text.opens c.in-Text-eq_text.closes c.in-Text-eq_text.behind = eq_to c.args.line.now c.args.at (sym c.eq_text.ensures ∙ c.in-Text-eq_text.is) in
-    let p = eq_string c.args.line.now c.args.at (under) in
+    let p = eq_string c.args.line.now c.args.at under in
     omega arith
 
 pub slice_bounds-eq_agrees-start : goal.slice_bounds-eq_agrees-start
 slice_bounds-eq_agrees-start c =
     let under : EqTo c.args.line.now c.args.at c.in-Text-eq_text.opens c.in-Text-eq_text.closes c.in-Text-eq_text.behind = eq_to c.args.line.now c.args.at (sym c.eq_text.ensures ∙ c.in-Text-eq_text.is) in
-    let p = eq_string c.args.line.now c.args.at (under) in
+    let p = eq_string c.args.line.now c.args.at under in
     omega arith
 
 pub slice_bounds-eq_agrees-end : goal.slice_bounds-eq_agrees-end
 slice_bounds-eq_agrees-end c =
     let under : EqTo c.args.line.now c.args.at c.in-Text-eq_text.opens c.in-Text-eq_text.closes c.in-Text-eq_text.behind = eq_to c.args.line.now c.args.at (sym c.eq_text.ensures ∙ c.in-Text-eq_text.is) in
-    let p = eq_string c.args.line.now c.args.at (under) in
+    let p = eq_string c.args.line.now c.args.at under in
     omega arith
 
 pub returns-then-eq_agrees : goal.returns-then-eq_agrees
 returns-then-eq_agrees c =
     let under : EqTo c.args.line.now c.args.at c.in-Text-eq_text.opens c.in-Text-eq_text.closes c.in-Text-eq_text.behind = eq_to c.args.line.now c.args.at (sym c.eq_text.ensures ∙ c.in-Text-eq_text.is) in
-    sym (passed_eq c.args.topic.now c.args.line.now c.args.at (under) (sym c.eq_agrees.ensures ∙ c.if-eq_agrees.true) refl)
+    sym (passed_eq c.args.topic.now c.args.line.now c.args.at under (sym c.eq_agrees.ensures ∙ c.if-eq_agrees.true) refl)
 
 pub returns-in-Text-eq_text : goal.returns-in-Text-eq_text
 returns-in-Text-eq_text c =
     let under : EqTo c.args.line.now c.args.at c.in-Text-eq_text.opens c.in-Text-eq_text.closes c.in-Text-eq_text.behind = eq_to c.args.line.now c.args.at (sym c.eq_text.ensures ∙ c.in-Text-eq_text.is) in
-    sym (passed_eq c.args.topic.now c.args.line.now c.args.at (under) (sym c.eq_agrees.ensures ∙ c.if-eq_agrees.false) (sym c.element_behind-in-Text-eq_text.ensures))
+    sym (passed_eq c.args.topic.now c.args.line.now c.args.at under (sym c.eq_agrees.ensures ∙ c.if-eq_agrees.false) (sym c.element_behind-in-Text-eq_text.ensures))
 
 pub returns : goal.returns
 returns c =

@@ -1,7 +1,6 @@
 -- `questions::decision::pass_value` meets its contract. Assumes nothing.
 use mathlib.Core.Path.{refl, sym, ◌∙◌}
 use Rattle.questions.proofs.PassLaws.{passed_by}
-use borrow.Author.Rules.{rules}
 use Rattle.questions.proofs.decision.pass_value.Goals as goal
 
 pub returns-then-topic_agrees : goal.returns-then-topic_agrees

@@ -1,7 +1,6 @@
 -- `questions::decision::rule_agrees` meets its contract: each return is what the line's head, its topics and the rows say. No loop. Assumes
 -- nothing.
 use mathlib.Core.Path.{refl, sym, ◌∙◌}
-use borrow.Author.Rules.{rules}
 use Rattle.questions.proofs.AgreeLaws.{line_differs, line-all, line_by}
 use Rattle.questions.proofs.decision.rule_agrees.Goals as goal
 

@@ -1,9 +1,6 @@
 -- `questions::decision::some_topic_agrees` meets its contract. The invariant: one of the topics from `next` on, of `turns` at the most, agrees
 -- if and only if one of all does. The measure is `turns`. Assumes nothing.
-use mathlib.Core.Path.{◌≡◌, refl, sym, ap, ◌∙◌}
-use native.Mathlib.Omega.{arith}
-use borrow.Author.Rules.{rules}
-use lib.ListN.{length}
+use mathlib.Core.Path.{refl, sym, ap, ◌∙◌}
 use Rattle.questions.specs.Parts.{some_topic_from}
 use Rattle.questions.proofs.DecisionLaws.{some_end, some_none, some_by}
 use Rattle.questions.proofs.decision.some_topic_agrees.Goals as goal

@@ -4,7 +4,6 @@ use borrow.Author.Tests.{lt-ltb, le-ltb}
 use lib.ListN.{length}
 use Rattle.topic.proofs.Apart.{apart_no_match}
 use Rattle.questions.proofs.PassLaws.{known_match, text_by}
-use borrow.Author.Rules.{rules}
 use Rattle.questions.proofs.decision.text_agrees.Goals as goal
 
 pub returns-then-begins_apart : goal.returns-then-begins_apart

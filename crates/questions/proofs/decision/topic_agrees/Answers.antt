@@ -1,7 +1,6 @@
 -- By what `topic_at` answers: a filter, an eq, or what agrees with nothing. Assumes nothing.
 use mathlib.Core.Path.{sym, ◌∙◌}
 use Rattle.questions.proofs.HeadLaws.{agrees_by, none_agrees, topic_by}
-use borrow.Author.Rules.{rules}
 use Rattle.questions.proofs.decision.topic_agrees.Goals as goal
 
 pub returns-in-Filter : goal.returns-in-Filter

@@ -1,6 +1,5 @@
 -- `store::Counts::eqs_at` meets its contract. Assumes nothing.
 use native.Mathlib.Omega.{arith}
-use borrow.Author.Rules.{rules}
 use Rattle.store.specs.Layout.{filters_at, eqs_at}
 use Rattle.store.proofs.Counts.eqs_at.Goals as goal
 

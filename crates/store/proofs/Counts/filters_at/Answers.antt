@@ -1,6 +1,5 @@
 -- `store::Counts::filters_at` meets its contract. Assumes nothing.
 use mathlib.Core.Path.{refl}
-use borrow.Author.Rules.{rules}
 use Rattle.store.specs.Layout.{filters_at}
 use Rattle.store.proofs.Counts.filters_at.Goals as goal
 

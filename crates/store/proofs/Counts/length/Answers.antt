@@ -1,6 +1,5 @@
 -- `store::Counts::length` meets its contract. Assumes nothing.
 use mathlib.Core.Path.{refl}
-use borrow.Author.Rules.{rules}
 use Rattle.store.specs.Store.{store_length}
 use Rattle.store.proofs.Counts.length.Goals as goal
 

@@ -1,7 +1,6 @@
 -- `store::Counts::new` meets its contract: the first test that holds puts the counts out of range. Assumes nothing.
 use native.Mathlib.Omega.{arith}
 use borrow.Author.Tests.{ltb-true, ltb-false}
-use borrow.Author.Rules.{rules}
 use Rattle.store.proofs.OpenLaws.{counts_out, counts_in}
 use Rattle.store.proofs.Counts.new.Goals.{then-bytes-eq0-via-then-bytes-eq0, then-bytes-eq0-via-else-bytes-eq0+then-bytes-gt-BYTES, then-filters-eq0-via-then-filters-eq0, then-filters-eq0-via-else-filters-eq0+then-filters-gt-ROWS, then-eqs-eq0-via-then-eqs-eq0, then-eqs-eq0-via-else-eqs-eq0+then-eqs-gt-ROWS, then-notes-eq0-via-then-notes-eq0, then-notes-eq0-via-else-notes-eq0+then-notes-gt-ROWS}
 use Rattle.store.proofs.Counts.new.Goals as goal

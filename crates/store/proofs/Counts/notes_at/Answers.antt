@@ -1,6 +1,5 @@
 -- `store::Counts::notes_at` meets its contract. Assumes nothing.
 use native.Mathlib.Omega.{arith}
-use borrow.Author.Rules.{rules}
 use Rattle.store.specs.Layout.{filters_at, eqs_at, notes_at}
 use Rattle.store.proofs.Counts.notes_at.Goals as goal
 

@@ -1,5 +1,4 @@
 -- `store::check::check` meets its contract: the store is there if and only if it has a shape. Assumes nothing.
-use borrow.Author.Rules.{rules}
 use Rattle.store.specs.View.{view}
 use Rattle.store.proofs.ShapeLaws.{laid_out_told, malformed_told}
 use Rattle.store.proofs.check.check.Goals as goal

@@ -3,7 +3,6 @@ use Prim.Native.Nat.{◌<◌}
 use mathlib.Core.Bool.{true, false}
 use mathlib.Core.Path.{◌≡◌, refl, sym, ap, ◌∙◌}
 use native.Mathlib.Omega.{arith}
-use borrow.Author.Rules.{rules}
 use Rattle.topic.specs.Topic.{valid_filter}
 use Rattle.table.specs.Bytes.{number}
 use Rattle.rule.specs.Limits.{text_limit}
@@ -27,7 +26,7 @@ returns-then-not-padded-2 c =
     let text_padded : true ≡ padded 6 text_limit c.number_at-2.result c.args.row.now = sym c.if-not-padded.false ∙ c.padded.ensures in
     let rule = below in
     let owner = sym c.if-not-padded-2.true ∙ c.padded-2.ensures in
-    filter_tests {text = true} {owner = false} c.args.bound c.args.row.now rule c.number_at-2.ensures (text_padded) c.number_at-3.ensures owner
+    filter_tests {text = true} {owner = false} c.args.bound c.args.row.now rule c.number_at-2.ensures text_padded c.number_at-3.ensures owner
 
 pub returns : goal.returns
 returns c =
@@ -35,5 +34,5 @@ returns c =
     let text_padded : true ≡ padded 6 text_limit c.number_at-2.result c.args.row.now = sym c.if-not-padded.false ∙ c.padded.ensures in
     let rule = below in
     let owner = sym c.if-not-padded-2.false ∙ c.padded-2.ensures in
-    let all = filter_tests {text = true} {owner = true} c.args.bound c.args.row.now rule c.number_at-2.ensures (text_padded) c.number_at-3.ensures owner in
+    let all = filter_tests {text = true} {owner = true} c.args.bound c.args.row.now rule c.number_at-2.ensures text_padded c.number_at-3.ensures owner in
     c.valid_filter.ensures ∙ (ap valid_filter c.filter_text.ensures ∙ all)

@@ -1,6 +1,5 @@
 -- `store::check::numbered_fine` meets its contract, which has its tests in the same order. Assumes nothing.
 use native.Mathlib.Omega.{arith}
-use borrow.Author.Rules.{rules}
 use Rattle.store.proofs.RowLaws.{numbered_not, numbered_tests}
 use Rattle.store.proofs.check.numbered_fine.Goals as goal
 

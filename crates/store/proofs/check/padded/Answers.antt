@@ -42,5 +42,5 @@ pub returns : goal.returns
 returns c =
     let field_length : c.if-width-m.m ≡ min c.args.width (length c.args.row.now - c.args.at) = elim c.if-width-m.branch [ then-width-m w ↦ omega arith | else-width-m w ↦ omega arith ] in
     let all : c.args.at + c.if-width-m.m - (c.args.at + c.args.n) ≡ c.if-width-m.m - c.args.n = omega arith in
-    let part = padded_part c.args.at c.args.width c.args.n c.if-width-m.m c.args.row.now (omega arith) (field_length) c.if-m-n.false in
+    let part = padded_part c.args.at c.args.width c.args.n c.if-width-m.m c.args.row.now (omega arith) field_length c.if-m-n.false in
     c.all_zero.ensures ∙ rw all part

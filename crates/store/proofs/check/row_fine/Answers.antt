@@ -1,5 +1,4 @@
 -- `store::check::row_fine` meets its contract. Assumes nothing.
-use borrow.Author.Rules.{rules}
 use Rattle.store.specs.Check.{row_fine}
 use Rattle.store.proofs.check.row_fine.Goals as goal
 

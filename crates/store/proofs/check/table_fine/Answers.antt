@@ -5,9 +5,8 @@ use mathlib.Core.Path.{◌≡◌, refl, sym, ◌∙◌}
 use mathlib.Core.Bool.{true, false}
 use native.Mathlib.Nat.{sub-zero, mul-le-mul_right, add-sub_cancel_left}
 use native.Mathlib.Omega.{arith}
-use borrow.Author.Rules.{rules}
 use borrow.Author.Rules.{part_to_end}
-use lib.ListN.{length, drop}
+use lib.ListN.{drop}
 use Rattle.table.specs.Bytes.{zeros, rows}
 use Rattle.store.proofs.RowLaws.{some_bad, bad_here, bad_past, bad_end, table_short, table_bad, table_tests}
 use Rattle.store.proofs.check.table_fine.Goals as goal
@@ -37,7 +36,7 @@ pub returns-then-not-all_zero : goal.returns-then-not-all_zero
 returns-then-not-all_zero c =
     let ended : (c.loop-i.at ≡ c.args.used * c.row_size-size.result) × (some_bad c.args.owned c.args.bound (rows c.row_size-size.result c.args.used c.args.part.now) ≡ false) = let all : c.loop-i.i ≡ c.args.used = omega arith in
     (rw all at c.loop-i.invariant.1.0, c.loop-i.invariant.1.1.1 ∙ bad_end c.args.owned c.args.bound _ c.args.used c.loop-i.i _ c.loop-i-test.false) in
-    let padding : c.all_zero.result ≡ zeros (drop (c.args.used * c.row_size-size.result) c.args.part.now) = rw (part_to_end, (ended).0) at c.all_zero.ensures in
+    let padding : c.all_zero.result ≡ zeros (drop (c.args.used * c.row_size-size.result) c.args.part.now) = rw (part_to_end, ended.0) at c.all_zero.ensures in
     let end = ended in
     let zero = sym c.if-not-all_zero.true ∙ padding in
     table_tests c.args.owned c.args.bound c.args.used c.args.part.now c.row_size-size.ensures {zero = false} (omega arith) end.1 zero refl
@@ -46,7 +45,7 @@ pub returns : goal.returns
 returns c =
     let ended : (c.loop-i.at ≡ c.args.used * c.row_size-size.result) × (some_bad c.args.owned c.args.bound (rows c.row_size-size.result c.args.used c.args.part.now) ≡ false) = let all : c.loop-i.i ≡ c.args.used = omega arith in
     (rw all at c.loop-i.invariant.1.0, c.loop-i.invariant.1.1.1 ∙ bad_end c.args.owned c.args.bound _ c.args.used c.loop-i.i _ c.loop-i-test.false) in
-    let padding : c.all_zero.result ≡ zeros (drop (c.args.used * c.row_size-size.result) c.args.part.now) = rw (part_to_end, (ended).0) at c.all_zero.ensures in
+    let padding : c.all_zero.result ≡ zeros (drop (c.args.used * c.row_size-size.result) c.args.part.now) = rw (part_to_end, ended.0) at c.all_zero.ensures in
     let end = ended in
     let zero = sym c.if-not-all_zero.false ∙ padding in
     table_tests c.args.owned c.args.bound c.args.used c.args.part.now c.row_size-size.ensures {zero = true} (omega arith) end.1 zero c.distinct.ensures

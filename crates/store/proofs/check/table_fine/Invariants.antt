@@ -1,16 +1,10 @@
 -- `store::check::table_fine` meets its contract. The loop's invariant: `at` is where row `i` begins, and a row that is not fine is
 -- among those left if and only if one is among the first `used`. The measure is what is left of `used`. Assumes nothing.
-use Prim.Native.Nat.{◌+◌, ◌-◌, ◌*◌, ◌≤◌}
-use mathlib.Core.Path.{◌≡◌, refl, sym, ◌∙◌}
-use mathlib.Core.Bool.{true, false}
-use native.Mathlib.Nat.{sub-zero, mul-le-mul_right, add-sub_cancel_left}
-use native.Mathlib.Omega.{arith}
-use borrow.Author.Rules.{rules}
-use borrow.Author.Tests.{not-true, not-false}
-use borrow.Author.Rules.{part_to_end}
+use Prim.Native.Nat.{◌-◌, ◌*◌, ◌≤◌}
+use mathlib.Core.Path.{◌≡◌}
 use lib.ListN.{length, drop}
-use Rattle.table.specs.Bytes.{zeros, rows}
-use Rattle.store.proofs.RowLaws.{some_bad, bad_here, bad_past, bad_end, table_short, table_bad, table_tests}
+use Rattle.table.specs.Bytes.{rows}
+use Rattle.store.proofs.RowLaws.{some_bad}
 use Rattle.store.proofs.check.table_fine.Given as goal
 
 abbrev pub invariant-loop-i : goal.invariant-loop-i

@@ -32,7 +32,7 @@ returns-in-Rules c =
     let by_fault : faultless (text_fault (take c.args.used c.args.part.now)) ≡ text_fine c.args.used c.args.part.now = text_fine_by {zero = true} c.args.used c.args.part.now (omega arith) (sym c.if-not-all_zero.false ∙ c.all_zero.ensures) in
     let text = take c.args.used c.args.part.now in
     let told = rules_told (length (lines text)) (text_fault text) c.count_rules.ensures c.in-Rules.is in
-    ap Rules told.1 ∙ text_rules_by {fine = true} c.args.used c.args.part.now (rw told.0 at (by_fault))
+    ap Rules told.1 ∙ text_rules_by {fine = true} c.args.used c.args.part.now (rw told.0 at by_fault)
 
 pub returns-in-Faulty : goal.returns-in-Faulty
 unfolding faultless
@@ -40,4 +40,4 @@ returns-in-Faulty c =
     let by_fault : faultless (text_fault (take c.args.used c.args.part.now)) ≡ text_fine c.args.used c.args.part.now = text_fine_by {zero = true} c.args.used c.args.part.now (omega arith) (sym c.if-not-all_zero.false ∙ c.all_zero.ensures) in
     let text = take c.args.used c.args.part.now in
     let fault = rules_faulty_told (length (lines text)) (text_fault text) c.count_rules.ensures c.in-Faulty.is in
-    text_rules_by {fine = false} c.args.used c.args.part.now (rw fault at (by_fault))
+    text_rules_by {fine = false} c.args.used c.args.part.now (rw fault at by_fault)

@@ -6,7 +6,6 @@ use lib.ListN.{length, replicate}
 use Rattle.store.specs.Store.{store_length}
 use Rattle.store.specs.Layout.{filters_at, eqs_at, notes_at}
 use Rattle.store.proofs.RowLaws.{cleared_all, cleared_on}
-use borrow.Author.Rules.{rules}
 use Rattle.store.proofs.opening.clear_store.Goals as goal
 
 pub slice_bounds-clear_table-count : goal.slice_bounds-clear_table-count

@@ -1,7 +1,6 @@
 -- `store::opening::clear_table` meets its contract. Assumes nothing.
 use mathlib.Core.Path.{refl, ◌∙◌}
 use lib.ListN.{length}
-use borrow.Author.Rules.{rules}
 use Rattle.store.proofs.RowLaws.{cleared_all}
 use Rattle.store.proofs.opening.clear_table.Goals as goal
 

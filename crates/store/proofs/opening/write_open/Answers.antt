@@ -1,5 +1,4 @@
 -- `store::opening::write_open` meets its contract: each write is into the zeros that `clear_store` left. Assumes nothing.
-use borrow.Author.Rules.{rules}
 use Rattle.store.proofs.OpenLaws.{write_open}
 use Rattle.store.proofs.opening.write_open.Goals as goal
 

@@ -27,4 +27,4 @@ pub returns : goal.returns
 returns c =
     let part_length : c.if-n-m.m ≡ min c.args.n (min c.args.width (length c.args.row.now - c.args.at)) = elim c.if-n-m.branch [ then-n-m w ↦ elim c.if-width-m.branch [ then-width-m v ↦ omega arith | else-width-m v ↦ omega arith ] | else-n-m w ↦ elim c.if-width-m.branch [ then-width-m v ↦ omega arith | else-width-m v ↦ omega arith ] ] in
     let all : c.args.at + c.if-n-m.m - c.args.at ≡ c.if-n-m.m = omega arith in
-    rw all (field_part c.args.at c.args.width c.args.n c.if-n-m.m c.args.row.now (part_length))
+    rw all (field_part c.args.at c.args.width c.args.n c.if-n-m.m c.args.row.now part_length)

@@ -1,5 +1,4 @@
 -- `store::rows::filter_owner` meets its contract. Assumes nothing.
-use borrow.Author.Rules.{rules}
 use Rattle.store.specs.Layout.{filter_owner}
 use Rattle.store.proofs.rows.filter_owner.Goals as goal
 

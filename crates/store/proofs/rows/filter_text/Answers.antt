@@ -1,5 +1,4 @@
 -- `store::rows::filter_text` meets its contract. Assumes nothing.
-use borrow.Author.Rules.{rules}
 use Rattle.store.specs.Layout.{filter_text}
 use Rattle.store.proofs.rows.filter_text.Goals as goal
 

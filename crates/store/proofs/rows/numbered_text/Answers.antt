@@ -1,5 +1,4 @@
 -- `store::rows::numbered_text` meets its contract. Assumes nothing.
-use borrow.Author.Rules.{rules}
 use Rattle.store.specs.Layout.{numbered_text}
 use Rattle.store.proofs.rows.numbered_text.Goals as goal
 

@@ -2,7 +2,6 @@
 use Prim.Native.Nat.{min}
 use mathlib.Core.Path.{◌≡◌, sym}
 use native.Mathlib.Omega.{arith}
-use borrow.Author.Rules.{rules}
 use lib.Seq.{length-take-le}
 use lib.ListN.{length}
 use Rattle.store.proofs.RowLaws.{put_cut}
@@ -22,4 +21,4 @@ slice_bounds-paste-end c =
 pub returns : goal.returns
 returns c =
     let cut_length : c.if-width-n.n ≡ min c.args.width (length c.args.text.now) = elim c.if-width-n.branch [ then-width-n w ↦ omega arith | else-width-n w ↦ omega arith ] in
-    put_cut c.args.head c.args.at c.args.width c.args.text.now c.args.row.now (cut_length) c.put_number.ensures c.paste.ensures.buffer_after
+    put_cut c.args.head c.args.at c.args.width c.args.text.now c.args.row.now cut_length c.put_number.ensures c.paste.ensures.buffer_after

@@ -1,6 +1,5 @@
 -- `store::rows::put_filter` meets its contract: each write is into the zeros that `clear` left. Assumes nothing.
 use native.Mathlib.Omega.{arith}
-use borrow.Author.Rules.{rules}
 use lib.ListN.{take, length-take}
 use Rattle.rule.specs.Limits.{text_limit, id_limit}
 use Rattle.store.specs.Layout.{filter_codec}

@@ -1,6 +1,5 @@
 -- `store::rows::put_numbered` meets its contract: each write is into the zeros that `clear` left. Assumes nothing.
 use native.Mathlib.Omega.{arith}
-use borrow.Author.Rules.{rules}
 use lib.ListN.{take, length-take}
 use Rattle.rule.specs.Limits.{text_limit}
 use Rattle.store.specs.Layout.{numbered_codec, eq_codec}
