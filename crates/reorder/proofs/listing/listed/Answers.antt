@@ -1,5 +1,6 @@
 -- Each number has its event, and a number of none the last one. Assumes nothing.
 use mathlib.Core.Path.{sym, ap}
+use native.Mathlib.Omega.{arith}
 use borrow.Author.Tests.{ne_eqb}
 use Rattle.reorder.specs.Listing.{listed}
 use Rattle.reorder.proofs.listing.listed.Goals as goal
@@ -77,4 +78,4 @@ returns-in-14 c =
 pub returns-in_default : goal.returns-in_default
 unfolding listed
 returns-in_default c =
-    rw (ne_eqb _ 1 c.in_default.rest.0.0.0.0.0.0.0.0.0.0.0.0.0.1, ne_eqb _ 2 c.in_default.rest.0.0.0.0.0.0.0.0.0.0.0.0.1, ne_eqb _ 3 c.in_default.rest.0.0.0.0.0.0.0.0.0.0.0.1, ne_eqb _ 4 c.in_default.rest.0.0.0.0.0.0.0.0.0.0.1, ne_eqb _ 5 c.in_default.rest.0.0.0.0.0.0.0.0.0.1, ne_eqb _ 6 c.in_default.rest.0.0.0.0.0.0.0.0.1, ne_eqb _ 7 c.in_default.rest.0.0.0.0.0.0.0.1, ne_eqb _ 8 c.in_default.rest.0.0.0.0.0.0.1, ne_eqb _ 9 c.in_default.rest.0.0.0.0.0.1, ne_eqb _ 10 c.in_default.rest.0.0.0.0.1, ne_eqb _ 11 c.in_default.rest.0.0.0.1, ne_eqb _ 12 c.in_default.rest.0.0.1, ne_eqb _ 13 c.in_default.rest.0.1, ne_eqb _ 14 c.in_default.rest.1)
+    rw (ne_eqb c.args.n 1 (λ e. omega arith), ne_eqb c.args.n 2 (λ e. omega arith), ne_eqb c.args.n 3 (λ e. omega arith), ne_eqb c.args.n 4 (λ e. omega arith), ne_eqb c.args.n 5 (λ e. omega arith), ne_eqb c.args.n 6 (λ e. omega arith), ne_eqb c.args.n 7 (λ e. omega arith), ne_eqb c.args.n 8 (λ e. omega arith), ne_eqb c.args.n 9 (λ e. omega arith), ne_eqb c.args.n 10 (λ e. omega arith), ne_eqb c.args.n 11 (λ e. omega arith), ne_eqb c.args.n 12 (λ e. omega arith), ne_eqb c.args.n 13 (λ e. omega arith), ne_eqb c.args.n 14 (λ e. omega arith))

@@ -16,11 +16,11 @@ loop-i-init c =
 
 pub returns-then-not-fits : goal.returns-then-not-fits
 returns-then-not-fits c =
-    sym (keeps_at c.args.order.now c.loop-i.i (omega arith) ∙ ap (λ (b : Bool). b && keeps (drop (c.loop-i.i + 1) c.args.order.now)) (sym c.?fits2.ensures ∙ (sym (not-not _) ∙ ap not c.if-not-fits.true))) ∙ c.loop-i.invariant.1
+    sym (keeps_at c.args.order.now c.loop-i.i (omega arith) ∙ ap (λ (b : Bool). b && keeps (drop (c.loop-i.i + 1) c.args.order.now)) (sym c.fits.ensures ∙ c.if-not-fits.true)) ∙ c.loop-i.invariant.1
 
 pub loop-i-preserved : goal.loop-i-preserved
 loop-i-preserved c =
-    (omega arith, sym (keeps_at c.args.order.now c.loop-i.i (omega arith) ∙ ap (λ (b : Bool). b && keeps (drop (c.loop-i.i + 1) c.args.order.now)) (sym c.?fits2.ensures ∙ (sym (not-not _) ∙ ap not c.if-not-fits.false))) ∙ c.loop-i.invariant.1)
+    (omega arith, sym (keeps_at c.args.order.now c.loop-i.i (omega arith) ∙ ap (λ (b : Bool). b && keeps (drop (c.loop-i.i + 1) c.args.order.now)) (sym c.fits.ensures ∙ c.if-not-fits.false)) ∙ c.loop-i.invariant.1)
 
 pub returns : goal.returns
 returns c =

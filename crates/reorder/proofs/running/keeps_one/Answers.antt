@@ -2,12 +2,11 @@
 -- is what is asked from `i` on. The measure is what is left of the order. Assumes nothing.
 use Prim.Native.Nat.{◌-◌, ◌≤◌}
 use mathlib.Core.Path.{◌≡◌, refl, sym, ◌∙◌}
-use mathlib.Core.Logic.{⊎_elim}
 use native.Mathlib.Omega.{arith}
 use lib.ListN.{length, drop}
 use Rattle.reorder.specs.Running.{keeps_one}
 use Rattle.reorder.proofs.Laws.{one_again, one_before, one_apart, one_behind, one_end}
-use borrow.Author.Rules.{rules}
+use Rattle.reorder.proofs.running.keeps_one.Goals.{then-later-n-2+else-share, else-later-n-2}
 use Rattle.reorder.proofs.running.keeps_one.Goals as goal
 
 pub loop-i-init : goal.loop-i-init
@@ -25,10 +24,10 @@ returns-then-share c =
 pub loop-i-preserved : goal.loop-i-preserved
 loop-i-preserved c = (
   omega arith,
-  ⊎_elim
-      (λ w. sym (one_apart c.args.n c.args.order.now c.loop-i.i (omega arith) c.if-later-n.false (sym w.1.ensures ∙ w.2.left)) ∙ c.loop-i.invariant.1)
-      (λ w. sym (one_behind c.args.n c.args.order.now c.loop-i.i (omega arith) c.if-later-n.false w.left) ∙ c.loop-i.invariant.1)
-      c.if-later-n-2.branch,
+  elim c.if-later-n-2.branch [
+    | then-later-n-2+else-share w ↦ sym (one_apart c.args.n c.args.order.now c.loop-i.i (omega arith) c.if-later-n.false (sym w.share.ensures ∙ w.if-share.false)) ∙ c.loop-i.invariant.1
+    | else-later-n-2 w ↦ sym (one_behind c.args.n c.args.order.now c.loop-i.i (omega arith) c.if-later-n.false w.if-later-n-2.false) ∙ c.loop-i.invariant.1
+  ],
 )
 
 pub returns : goal.returns
