@@ -1,5 +1,5 @@
 -- Rows pushed one after the other, as bytes: what the functions of connecting.rt answer.
-use Rattle.std.specs.Prelude.{ℕ, suc, ◌-◌, Bool, true, false, cond, List, [], ◌∷◌, ◌++◌, map, ltb, length, take, drop}
+use Rattle.std.specs.Prelude.{ℕ, suc, ◌-◌, cond, List, [], ◌∷◌, ◌++◌, map, ltb, length, take, drop}
 use Rattle.std.proofs.Math.Option.{Option, none, some}
 use Rattle.topic.specs.Topic.{valid_filter}
 use Rattle.table.specs.Bytes.{push_answer, pushed, restored}

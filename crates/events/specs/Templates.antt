@@ -1,5 +1,5 @@
 -- The templates of a rule text by places: what the functions of templates.rt answer.
-use Rattle.std.specs.Prelude.{ℕ, zero, suc, Bool, true, false, ◌&&◌, not, cond, List, [], ◌∷◌, ◌++◌, length}
+use Rattle.std.specs.Prelude.{ℕ, zero, suc, Bool, ◌&&◌, not, cond, List, [], ◌∷◌, ◌++◌}
 use Rattle.std.proofs.Math.Option.{Option, none, some, bind}
 use Rattle.json_text.specs.Json.{line_value}
 use Rattle.json_text.specs.Access.{first_item, next_item}

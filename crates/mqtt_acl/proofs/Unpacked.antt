@@ -14,7 +14,7 @@ use Rattle.rule.specs.Rule.{Meaning}
 use Rattle.rule.specs.Identity.{superuser}
 use Rattle.store.specs.Store.{over, View}
 use Rattle.store.specs.View.{view}
-use Rattle.questions.specs.Question.{Question, connect, subscribe, publish, code_limit, qos_limit, client_over, question_cause, Decision, kept, connects, subscribes, publishes, not_authorized, unspecified_error, Reply, refuses, decides}
+use Rattle.questions.specs.Question.{Question, connect, subscribe, publish, code_limit, qos_limit, client_over, question_cause, kept, connects, subscribes, publishes, not_authorized, unspecified_error, Reply, refuses, decides}
 use Rattle.questions.specs.Decision.{keeps, refusal, allowance, by_rule, ask}
 use Rattle.questions.proofs.AskLaws.{refuses_by, refuses_malformed, keeps_by, decides_by}
 use Rattle.events.specs.Event.{Event, connected as connects-event, disconnected, ended, argument_causes, store_causes, cause}

@@ -2,6 +2,7 @@
 // text, and a store, crosses as its address and its length, a flag as a byte; `mqtt_acl_open` and the events write the store, the questions only
 // read it. Answers on a store are the numbers of specs/Answers.antt, and `unpacking` takes them apart.
 #![tactic(auto)]
+
 pub mod clients;
 pub mod hosts;
 pub mod unpacking;

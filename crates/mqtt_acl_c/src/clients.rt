@@ -37,7 +37,9 @@ pub extern "C" fn mqtt_acl_client_publish(
 ) -> u64
     ensures { result ≡ clients.packed (decision.ask (record { superuser = flag superuser; id = id.now; name = where_true (flag has_name) name.now }) rules.now (decision.publish qos (flag retain) (flag disconnect) topic.now)) }
 {
-    mqtt_acl::clients::mqtt_acl_client_publish(superuser, id, has_name, name, rules, topic, qos, retain, disconnect)
+    mqtt_acl::clients::mqtt_acl_client_publish(
+        superuser, id, has_name, name, rules, topic, qos, retain, disconnect,
+    )
 }
 
 // Are the credentials expired now, at these seconds and nanoseconds?
@@ -51,5 +53,11 @@ pub extern "C" fn mqtt_acl_expired(
 ) -> u64
     ensures { result ≡ clients.expiry_number (expiry.expiry (clients.expiry_of (flag has_expiry) expiry_seconds expiry_nanoseconds) seconds nanoseconds) }
 {
-    mqtt_acl::clients::mqtt_acl_expired(has_expiry, expiry_seconds, expiry_nanoseconds, seconds, nanoseconds)
+    mqtt_acl::clients::mqtt_acl_expired(
+        has_expiry,
+        expiry_seconds,
+        expiry_nanoseconds,
+        seconds,
+        nanoseconds,
+    )
 }

@@ -92,7 +92,18 @@ pub extern "C" fn mqtt_acl_identity(
 ) -> u8
     ensures { result ≡ rules.identity_of line.now id.now (rules.where_true (rules.flag has_name) name.now) (rules.where_true (rules.flag has_password) password.now) (rules.where_true (rules.flag has_address) address.now) (rules.where_true (rules.flag has_protocol) protocol) }
 {
-    mqtt_acl::mqtt_acl_identity(line, id, has_name, name, has_password, password, has_address, address, has_protocol, protocol)
+    mqtt_acl::mqtt_acl_identity(
+        line,
+        id,
+        has_name,
+        name,
+        has_password,
+        password,
+        has_address,
+        address,
+        has_protocol,
+        protocol,
+    )
 }
 
 // Opens a store for a rule text: 0 done, else the number of document 01 plus 256 times the line. Refused, the store is unchanged.
@@ -161,7 +172,18 @@ pub extern "C" fn mqtt_acl_connect(
 ) -> u32
     ensures { result ≡ answers.packed (ask (question.connect earlier (record { id = id.entry.now; name = rules.where_true (rules.flag has_name) name.now; password = rules.where_true (rules.flag has_password) password.now; address = rules.where_true (rules.flag has_address) address.now; protocol = some protocol })) store.now) }
 {
-    mqtt_acl::mqtt_acl_connect(store, earlier, id, has_name, name, has_password, password, has_address, address, protocol)
+    mqtt_acl::mqtt_acl_connect(
+        store,
+        earlier,
+        id,
+        has_name,
+        name,
+        has_password,
+        password,
+        has_address,
+        address,
+        protocol,
+    )
 }
 
 // May the client subscribe to the topic? The protocol counts where its flag is true.
@@ -183,7 +205,21 @@ pub extern "C" fn mqtt_acl_subscribe(
 ) -> u32
     ensures { result ≡ answers.packed (ask (question.subscribe earlier (record { id = id.entry.now; name = rules.where_true (rules.flag has_name) name.now; password = rules.where_true (rules.flag has_password) password.now; address = rules.where_true (rules.flag has_address) address.now; protocol = rules.where_true (rules.flag has_protocol) protocol }) topic.now qos) store.now) }
 {
-    mqtt_acl::mqtt_acl_subscribe(store, earlier, id, has_name, name, has_password, password, has_address, address, has_protocol, protocol, topic, qos)
+    mqtt_acl::mqtt_acl_subscribe(
+        store,
+        earlier,
+        id,
+        has_name,
+        name,
+        has_password,
+        password,
+        has_address,
+        address,
+        has_protocol,
+        protocol,
+        topic,
+        qos,
+    )
 }
 
 // May the client publish to the topic? A refusal by a rule carries the disconnect flag.
@@ -205,5 +241,19 @@ pub extern "C" fn mqtt_acl_publish(
 ) -> u32
     ensures { result ≡ answers.packed (ask (question.publish earlier (record { id = id.entry.now; name = rules.where_true (rules.flag has_name) name.now; password = rules.where_true (rules.flag has_password) password.now; address = rules.where_true (rules.flag has_address) address.now; protocol = rules.where_true (rules.flag has_protocol) protocol }) topic.now (rules.flag disconnect)) store.now) }
 {
-    mqtt_acl::mqtt_acl_publish(store, earlier, id, has_name, name, has_password, password, has_address, address, has_protocol, protocol, topic, disconnect)
+    mqtt_acl::mqtt_acl_publish(
+        store,
+        earlier,
+        id,
+        has_name,
+        name,
+        has_password,
+        password,
+        has_address,
+        address,
+        has_protocol,
+        protocol,
+        topic,
+        disconnect,
+    )
 }

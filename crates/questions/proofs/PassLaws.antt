@@ -10,7 +10,7 @@ use lib.Dec.{ltb}
 use lib.ListN.{length, take, drop}
 use Rattle.text.specs.Text.{same}
 use Rattle.topic.specs.Topic.{levels, levels_if, valid_filter, levels_match, checked_levels, tree_match}
-use Rattle.json_text.specs.Json.{text, depth_limit, line_value}
+use Rattle.json_text.specs.Json.{depth_limit, line_value}
 use Rattle.json_text.specs.Access.{next_item}
 use Rattle.json_text.specs.Lines.{lines, line_at, line_behind, next_line}
 use Rattle.json_text.specs.declared.Place.{Place}

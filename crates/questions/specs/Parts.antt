@@ -5,7 +5,7 @@ use Rattle.text.specs.Text.{same}
 use Rattle.topic.specs.Topic.{valid_filter, tree_match}
 use Rattle.json_text.specs.Strings.{string_at}
 use Rattle.json_text.specs.Json.{line_value}
-use Rattle.json_text.specs.Access.{first_item, next_item}
+use Rattle.json_text.specs.Access.{next_item}
 use Rattle.json_text.specs.declared.Place.{Place}
 use Rattle.json_text.specs.declared.Place.TheVariants.{At, Nowhere}
 use Rattle.table.specs.Table.{some_row}
@@ -18,7 +18,7 @@ use Rattle.rule.specs.declared.Control.{Control}
 use Rattle.rule.specs.declared.Protocol.{Protocol}
 use Rattle.rule.specs.declared.Protocol.TheVariants.{Any, Is}
 use Rattle.rule.specs.declared.Topics.{Topics}
-use Rattle.rule.specs.declared.Topics.TheVariants.{All, Listed}
+use Rattle.rule.specs.declared.Topics.TheVariants.{All}
 use Rattle.store.specs.Store.{over, FilterRow, EqRow, View}
 use Rattle.store.specs.Layout.{filter_codec, eq_codec, get_all}
 use Rattle.questions.specs.declared.Asked.{Asked}

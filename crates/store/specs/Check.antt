@@ -10,7 +10,6 @@ use Rattle.rule.specs.RuleText.{text_fault}
 use Rattle.store.specs.declared.Counts.{Counts}
 use Rattle.store.specs.declared.CountsRead.{CountsRead}
 use Rattle.store.specs.declared.CountsRead.TheVariants.{Counts as CountsAre, OutOfRange}
-use Rattle.store.specs.declared.Shape.{Shape}
 use Rattle.store.specs.declared.ShapeRead.{ShapeRead}
 use Rattle.store.specs.declared.ShapeRead.TheVariants.{LaidOut, Malformed}
 use Rattle.store.specs.declared.RulesRead.{RulesRead}

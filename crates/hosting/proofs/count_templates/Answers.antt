@@ -1,6 +1,5 @@
 -- The loop's invariant: the templates counted and those of the lines from `at` on are all of each kind, and no more are counted than bytes
 -- passed. The measure is what is left of the text. Assumes nothing.
-use Prim.Native.Nat.{◌-◌}
 use native.Mathlib.Omega.{arith}
 use mathlib.Core.Path.{ap}
 use mathlib.Core.Bool.{true, false}

@@ -2,7 +2,6 @@
 use native.Mathlib.Omega.{arith}
 use Rattle.questions.specs.Answers.{connect_says}
 use Rattle.mqtt_acl.specs.Answers.{decision_number, packed}
-use borrow.Author.Rules.{rules}
 use Rattle.mqtt_acl.proofs.connect_number.Goals as goal
 
 pub numbered-requires : goal.numbered-requires

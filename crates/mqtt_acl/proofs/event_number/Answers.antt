@@ -1,7 +1,6 @@
 -- Each arm computes. Assumes nothing.
 use Rattle.events.specs.Event.{says}
 use Rattle.mqtt_acl.specs.Answers.{event_number}
-use borrow.Author.Rules.{rules}
 use Rattle.mqtt_acl.proofs.event_number.Goals as goal
 
 pub returns-in-Done : goal.returns-in-Done

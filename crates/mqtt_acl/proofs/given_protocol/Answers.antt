@@ -1,7 +1,6 @@
 -- The flag decides. Assumes nothing.
 use Rattle.rule.specs.Places.{placed_protocol}
 use Rattle.mqtt_acl.specs.Rules.{where_true}
-use borrow.Author.Rules.{rules}
 use Rattle.mqtt_acl.proofs.given_protocol.Goals as goal
 
 pub returns-then-flag : goal.returns-then-flag

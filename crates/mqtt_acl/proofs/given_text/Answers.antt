@@ -4,7 +4,6 @@ use lib.ListN.{length}
 use Rattle.rule.specs.Places.{given}
 use Rattle.rule.proofs.AgreementLaws.{given_whole}
 use Rattle.mqtt_acl.specs.Rules.{where_true}
-use borrow.Author.Rules.{rules}
 use Rattle.mqtt_acl.proofs.given_text.Goals as goal
 
 pub returns-then-flag : goal.returns-then-flag

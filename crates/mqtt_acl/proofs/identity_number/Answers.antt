@@ -1,6 +1,5 @@
 -- Each arm computes. Assumes nothing.
 use Rattle.mqtt_acl.specs.Rules.{identity_number}
-use borrow.Author.Rules.{rules}
 use Rattle.mqtt_acl.proofs.identity_number.Goals as goal
 
 pub returns-then-superuser : goal.returns-then-superuser

@@ -5,7 +5,6 @@ use Rattle.questions.specs.Question.{connect}
 use Rattle.questions.specs.Decision.{ask}
 use Rattle.mqtt_acl.specs.Answers.{packed}
 use Rattle.mqtt_acl.proofs.AnswerLaws.{answer_small}
-use borrow.Author.Rules.{rules}
 use Rattle.mqtt_acl.proofs.mqtt_acl_connect.Goals as goal
 
 pub connect_number-requires : goal.connect_number-requires

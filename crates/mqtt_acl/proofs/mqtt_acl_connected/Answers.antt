@@ -3,7 +3,6 @@ use mathlib.Core.Path.{ap, ◌∙◌}
 use Rattle.store.specs.View.{view}
 use Rattle.events.specs.Event.{connected, cause, after}
 use Rattle.mqtt_acl.specs.Answers.{event_number}
-use borrow.Author.Rules.{rules}
 use Rattle.mqtt_acl.proofs.mqtt_acl_connected.Goals as goal
 
 pub returns : goal.returns

@@ -1,7 +1,6 @@
 -- The answer is the event's. Assumes nothing.
 use mathlib.Core.Path.{ap, ◌∙◌}
 use Rattle.mqtt_acl.specs.Answers.{event_number}
-use borrow.Author.Rules.{rules}
 use Rattle.mqtt_acl.proofs.mqtt_acl_ended.Goals as goal
 
 pub returns : goal.returns

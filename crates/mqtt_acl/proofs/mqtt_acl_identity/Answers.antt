@@ -3,7 +3,6 @@ use mathlib.Core.Path.{sym, ap, ◌∙◌}
 use Rattle.rule.specs.Agreement.{identity_at}
 use Rattle.mqtt_acl.specs.Rules.{identity_number, identity_of}
 use Rattle.mqtt_acl.proofs.Laws.{identity_by, identity_by_lem}
-use borrow.Author.Rules.{rules}
 use Rattle.mqtt_acl.proofs.mqtt_acl_identity.Goals as goal
 
 pub returns-in_default : goal.returns-in_default

@@ -1,7 +1,6 @@
 -- The answer is that of the call, as a number. Assumes nothing.
 use mathlib.Core.Path.{ap, ◌∙◌}
 use Rattle.mqtt_acl.specs.Rules.{yes}
-use borrow.Author.Rules.{rules}
 use Rattle.mqtt_acl.proofs.mqtt_acl_is_document.Goals as goal
 
 pub returns : goal.returns

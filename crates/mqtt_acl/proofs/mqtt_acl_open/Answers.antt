@@ -2,7 +2,6 @@
 use mathlib.Core.Path.{ap, ◌∙◌}
 use Rattle.mqtt_acl.specs.Answers.{open_number}
 use Rattle.mqtt_acl.proofs.AnswerLaws.{open_small}
-use borrow.Author.Rules.{rules}
 use Rattle.mqtt_acl.proofs.mqtt_acl_open.Goals as goal
 
 pub opened_number-requires : goal.opened_number-requires

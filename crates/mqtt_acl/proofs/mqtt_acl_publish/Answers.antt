@@ -6,7 +6,6 @@ use Rattle.questions.specs.Parts.{protocol_of}
 use Rattle.mqtt_acl.specs.Answers.{packed}
 use Rattle.mqtt_acl.specs.Rules.{where_true, flag}
 use Rattle.mqtt_acl.proofs.AnswerLaws.{answer_small, protocol_placed}
-use borrow.Author.Rules.{rules}
 use Rattle.mqtt_acl.proofs.mqtt_acl_publish.Goals as goal
 
 pub publish_number-requires : goal.publish_number-requires

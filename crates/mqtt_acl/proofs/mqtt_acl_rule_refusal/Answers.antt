@@ -1,7 +1,6 @@
 -- By what `read_rule` answers. Assumes nothing.
 use mathlib.Core.Path.{sym, ◌∙◌}
 use Rattle.mqtt_acl.proofs.Laws.{refusal_by, refusal_by_lem}
-use borrow.Author.Rules.{rules}
 use Rattle.mqtt_acl.proofs.mqtt_acl_rule_refusal.Goals as goal
 
 pub returns-in-Rule : goal.returns-in-Rule

@@ -2,7 +2,6 @@
 use native.Mathlib.Omega.{arith}
 use Rattle.store.specs.Opening.{says}
 use Rattle.mqtt_acl.specs.Answers.{open_number}
-use borrow.Author.Rules.{rules}
 use Rattle.mqtt_acl.proofs.opened_number.Goals as goal
 
 pub overflow_cast-result-in-Refused : goal.overflow_cast-result-in-Refused

@@ -2,7 +2,6 @@
 -- 256 exactly if one of all is, whatever number the lines are counted from (the test doesn't look at it). The measure is what is left of
 -- the text. The invariant of the loop over a line's topics: one of the topics from `next` on, of `turns` at the most, or one of the lines
 -- behind, fills to a text over 256 exactly if one of all does. The measure is `turns`. Assumes nothing.
-use Prim.Native.Nat.{◌-◌}
 use mathlib.Core.Path.{refl}
 use Rattle.events.proofs.TemplateWalk.{next_less, over_start, over_line, over_nowhere, over_next, over_is, over_not, over_found, over_onward, over_done}
 use Rattle.events.proofs.connecting.over_filled.Goals as goal

@@ -1,6 +1,5 @@
 -- `events::leaving::mark_filters` meets its contract. The loop's invariant: `i` rows are passed, up to `at`, within the part, and once the rows
 -- from `at` on are marked too the marks are those of all rows. The measure is what is left of the part. Assumes nothing.
-use Prim.Native.Nat.{◌-◌}
 use mathlib.Core.Path.{sym, ◌∙◌}
 use native.Mathlib.Omega.{arith}
 use Rattle.store.specs.Layout.{filter_codec}

@@ -2,7 +2,6 @@
 use native.Mathlib.Omega.{arith}
 use Rattle.authinfo.specs.Expiry.{expiry_says}
 use Rattle.mqtt_acl.specs.Clients.{expiry_number}
-use borrow.Author.Rules.{rules}
 use Rattle.mqtt_acl.proofs.clients.expiry_number.Goals as goal
 
 pub returns-then-is : goal.returns-then-is

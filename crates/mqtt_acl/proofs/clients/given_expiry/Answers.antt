@@ -1,6 +1,5 @@
 -- The flag decides. Assumes nothing.
 use Rattle.mqtt_acl.specs.Clients.{expiry_of}
-use borrow.Author.Rules.{rules}
 use Rattle.mqtt_acl.proofs.clients.given_expiry.Goals as goal
 
 pub returns-then-flag : goal.returns-then-flag

@@ -3,7 +3,6 @@ use mathlib.Core.Path.{ap, ◌∙◌}
 use Rattle.authinfo.specs.Decision.{ask, publish}
 use Rattle.mqtt_acl.specs.Clients.{packed}
 use Rattle.mqtt_acl.proofs.ClientLaws.{client_small}
-use borrow.Author.Rules.{rules}
 use Rattle.mqtt_acl.proofs.clients.mqtt_acl_client_publish.Goals as goal
 
 pub publish_number-requires : goal.publish_number-requires

@@ -3,7 +3,6 @@ use mathlib.Core.Path.{ap, ◌∙◌}
 use Rattle.authinfo.specs.Decision.{ask, subscribe}
 use Rattle.mqtt_acl.specs.Clients.{packed}
 use Rattle.mqtt_acl.proofs.ClientLaws.{client_small}
-use borrow.Author.Rules.{rules}
 use Rattle.mqtt_acl.proofs.clients.mqtt_acl_client_subscribe.Goals as goal
 
 pub subscribe_number-requires : goal.subscribe_number-requires

@@ -2,7 +2,6 @@
 use mathlib.Core.Path.{ap, ◌∙◌}
 use Rattle.authinfo.specs.Expiry.{expiry}
 use Rattle.mqtt_acl.specs.Clients.{expiry_number}
-use borrow.Author.Rules.{rules}
 use Rattle.mqtt_acl.proofs.clients.mqtt_acl_expired.Goals as goal
 
 pub returns : goal.returns

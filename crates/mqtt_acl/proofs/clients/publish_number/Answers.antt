@@ -2,7 +2,6 @@
 use native.Mathlib.Omega.{arith}
 use Rattle.authinfo.specs.Answers.{publish_says}
 use Rattle.mqtt_acl.specs.Clients.{decision_number, packed}
-use borrow.Author.Rules.{rules}
 use Rattle.mqtt_acl.proofs.clients.publish_number.Goals as goal
 
 pub with_value-requires : goal.with_value-requires

@@ -2,7 +2,6 @@
 use native.Mathlib.Omega.{arith}
 use Rattle.authinfo.specs.Answers.{subscribe_says}
 use Rattle.mqtt_acl.specs.Clients.{decision_number, packed}
-use borrow.Author.Rules.{rules}
 use Rattle.mqtt_acl.proofs.clients.subscribe_number.Goals as goal
 
 pub overflow_add-qos : goal.overflow_add-qos

@@ -1,7 +1,6 @@
 -- The count is that of the call. Assumes nothing.
 use mathlib.Core.Path.{ap}
 use Rattle.hosting.specs.declared.Templates.{Templates}
-use borrow.Author.Rules.{rules}
 use Rattle.mqtt_acl.proofs.hosts.mqtt_acl_eq_templates.Goals as goal
 
 pub returns : goal.returns

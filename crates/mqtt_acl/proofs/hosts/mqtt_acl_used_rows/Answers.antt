@@ -1,6 +1,5 @@
 -- The counts of the call, each at most 4,096, as one number. Assumes nothing.
 use mathlib.Core.Path.{sym, ap, ◌∙◌}
-use borrow.Author.Rules.{rules}
 use Rattle.hosting.proofs.HostingLaws.{used_small}
 use Rattle.mqtt_acl.specs.Hosts.{used_number}
 use Rattle.mqtt_acl.proofs.hosts.mqtt_acl_used_rows.Goals as goal

@@ -2,7 +2,6 @@
 use mathlib.Core.Path.{ap, ◌∙◌}
 use Rattle.mqtt_acl.specs.Rules.{yes}
 use Rattle.mqtt_acl.specs.Unpacked.{parts_by, parts}
-use borrow.Author.Rules.{rules}
 use Rattle.mqtt_acl.proofs.unpacking.mqtt_acl_answer_allows.Goals as goal
 
 pub returns : goal.returns

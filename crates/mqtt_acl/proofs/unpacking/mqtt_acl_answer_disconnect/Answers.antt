@@ -1,6 +1,5 @@
 -- The test is the definition's. Assumes nothing.
 use Rattle.mqtt_acl.specs.Unpacked.{parts_by, parts}
-use borrow.Author.Rules.{rules}
 use Rattle.mqtt_acl.proofs.unpacking.mqtt_acl_answer_disconnect.Goals as goal
 
 pub returns : goal.returns

@@ -1,5 +1,4 @@
 -- What is answered decides whether it carries a number. Assumes nothing.
-use borrow.Author.Rules.{rules}
 use borrow.Author.Tests.{eq-eqb, ne_eqb}
 use Rattle.mqtt_acl.specs.Unpacked.{parts_by, parts}
 use Rattle.mqtt_acl.proofs.unpacking.mqtt_acl_answer_refusal.Goals as goal

@@ -1,6 +1,5 @@
 -- What is answered decides whether it carries a rule. Assumes nothing.
 use Rattle.mqtt_acl.specs.Unpacked.{parts_by, parts}
-use borrow.Author.Rules.{rules}
 use Rattle.mqtt_acl.proofs.unpacking.mqtt_acl_answer_rule.Goals as goal
 
 pub returns-then-between : goal.returns-then-between

@@ -2,7 +2,6 @@
 -- most `at`, the first rule that agrees, of the lines from `at` on, counted from `n`, is the first of all, and with `checked` these lines are
 -- rules. The measure is what is left of the text. The invariant of the loop over a line's topics: one of the topics from `next` on, of `turns`
 -- at the most, agrees if and only if one of all does. The measure is `turns`. Assumes nothing.
-use Prim.Native.Nat.{◌-◌}
 use mathlib.Core.Path.{◌≡◌, refl, sym, ap, ◌∙◌}
 use mathlib.Core.Bool.{false}
 use native.Mathlib.Omega.{arith}

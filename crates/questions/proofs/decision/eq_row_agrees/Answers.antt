@@ -1,6 +1,5 @@
 -- `questions::decision::eq_row_agrees` meets its contract. The loop's invariant: `at` is at most the part's length, and one of the rows from
 -- `at` on agrees if and only if one of all does. The measure is what is left of the part. Assumes nothing.
-use Prim.Native.Nat.{◌-◌}
 use mathlib.Core.Path.{refl, sym, ◌∙◌}
 use native.Mathlib.Omega.{arith}
 use Rattle.store.specs.Layout.{eq_codec, numbered_codec}

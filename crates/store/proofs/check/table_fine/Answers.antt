@@ -1,6 +1,6 @@
 -- `store::check::table_fine` meets its contract. The loop's invariant: `at` is where row `i` begins, and a row that is not fine is
 -- among those left if and only if one is among the first `used`. The measure is what is left of `used`. Assumes nothing.
-use Prim.Native.Nat.{◌+◌, ◌-◌, ◌*◌, ◌≤◌}
+use Prim.Native.Nat.{◌+◌, ◌*◌, ◌≤◌}
 use mathlib.Core.Path.{◌≡◌, refl, sym, ◌∙◌}
 use mathlib.Core.Bool.{true, false}
 use native.Mathlib.Nat.{sub-zero, mul-le-mul_right, add-sub_cancel_left}
