@@ -3,5 +3,5 @@ use Rattle.std.proofs.Common.{sym, arith, length-take-le, rules}
 use Rattle.vectors.proofs.input.finish.Goals as goal
 
 pub slice_bounds-end_line-end : goal.slice_bounds-end_line-end
-slice_bounds-end_line-end c =
+slice_bounds-end_line-end g c =
     sym (length-take-le _ _ (omega arith))

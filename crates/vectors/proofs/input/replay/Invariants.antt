@@ -3,9 +3,9 @@ use Rattle.std.proofs.Common.{◌≡◌, ◌≤◌, length, rules}
 use Rattle.vectors.proofs.input.replay.Given as goal
 
 abbrev pub invariant-loop-turns : goal.invariant-loop-turns
-invariant-loop-turns l =
+invariant-loop-turns g l =
     (length l.buffer ≡ 4096) × (l.run.length ≤ 4096)
 
 abbrev pub decreases-loop-turns : goal.decreases-loop-turns
-decreases-loop-turns l =
+decreases-loop-turns g l =
     l.turns

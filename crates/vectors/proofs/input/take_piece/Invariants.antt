@@ -3,9 +3,9 @@ use Rattle.std.proofs.Common.{◌≡◌, ◌-◌, ◌≤◌, length, arith, rule
 use Rattle.vectors.proofs.input.take_piece.Given as goal
 
 abbrev pub invariant-loop-i : goal.invariant-loop-i
-invariant-loop-i l =
+invariant-loop-i g l =
     (length l.buffer ≡ length l.initial.buffer) × (l.run.length ≤ length l.buffer)
 
 abbrev pub decreases-loop-i : goal.decreases-loop-i
-decreases-loop-i l =
+decreases-loop-i g l =
     length l.piece - l.i

@@ -7,10 +7,6 @@ pub returns-then-recorded-ne1 : goal.returns-then-recorded-ne1
 returns-then-recorded-ne1 c =
     sym (digit_long _ _ c.if-recorded-ne1.true)
 
-pub overflow_cast-result : goal.overflow_cast-result
-overflow_cast-result c =
-    omega (arith, c.shared_slice_known-1.given 0)
-
 pub returns : goal.returns
 returns c =
     sym (digit_one _ _ c.if-recorded-ne1.false)
