@@ -1,5 +1,5 @@
 -- Three bytes, each against its part of the number. Assumes nothing.
-use Rattle.std.proofs.Common.{sym, arith, rules}
+use Rattle.std.proofs.Common.{sym}
 use Rattle.vectors.proofs.ClientLaws.{packed_long, packed_what, packed_value, packed_line}
 use Rattle.vectors.proofs.clients.is_packed.Goals as goal
 

@@ -1,5 +1,5 @@
 -- The loop's invariant: what the buffer has of a line lies within it. The measure is the number of turns that are left. Assumes nothing.
-use Rattle.std.proofs.Common.{◌≡◌, ◌≤◌, length, rules}
+use Rattle.std.proofs.Common.{◌≡◌, ◌≤◌, length}
 use Rattle.vectors.proofs.input.replay.Given as goal
 
 abbrev pub invariant-loop-turns : goal.invariant-loop-turns

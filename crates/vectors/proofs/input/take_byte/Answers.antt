@@ -1,5 +1,5 @@
 -- What the buffer has of a line lies within it. Assumes nothing.
-use Rattle.std.proofs.Common.{sym, arith, length-set, length-take-le, rules}
+use Rattle.std.proofs.Common.{sym, arith, length-set, length-take-le}
 use Rattle.vectors.proofs.input.take_byte.Goals as goal
 
 pub slice_bounds-end_line-end-then-b-eq10 : goal.slice_bounds-end_line-end-then-b-eq10

@@ -1,5 +1,5 @@
 -- The loop's invariant: what the buffer has of a line lies within it. The measure is what is left of the piece. Assumes nothing.
-use Rattle.std.proofs.Common.{◌≡◌, ◌-◌, ◌≤◌, length, arith, rules}
+use Rattle.std.proofs.Common.{◌≡◌, ◌-◌, ◌≤◌, length}
 use Rattle.vectors.proofs.input.take_piece.Given as goal
 
 abbrev pub invariant-loop-i : goal.invariant-loop-i

@@ -1,5 +1,5 @@
 -- A digit is a word of one byte. Assumes nothing.
-use Rattle.std.proofs.Common.{sym, arith, rules}
+use Rattle.std.proofs.Common.{sym}
 use Rattle.vectors.proofs.Tests.{digit_long, digit_one}
 use Rattle.vectors.proofs.judging.is_digit.Goals as goal
 

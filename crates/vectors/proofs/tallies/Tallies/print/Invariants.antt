@@ -1,5 +1,5 @@
 -- The measure is the number of kinds that are left. Assumes nothing.
-use Rattle.std.proofs.Common.{◌-◌, rules}
+use Rattle.std.proofs.Common.{◌-◌}
 use Rattle.vectors.specs.Tallies.{kinds}
 use Rattle.vectors.proofs.tallies.Tallies.print.Given as goal
 
