@@ -1,6 +1,6 @@
 // The lines of standard input. Bytes come in pieces, and a buffer of 4,096 bytes carries the line that has begun from piece to piece.
 // A longer line is malformed. `main` calls `replay`.
-ghost use Rattle.std.specs.Prelude.{◌<◌, ◌≤◌, length};
+ghost use Rattle.std.specs.Prelude.{◌≡◌, ◌<◌, ◌≤◌, length};
 
 use crate::judging::{Judged, judge};
 use crate::tallies::Tallies;

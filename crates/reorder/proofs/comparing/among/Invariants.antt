@@ -1,8 +1,6 @@
 -- `reorder::comparing::among` meets its contract. The loop's invariant: `i` is at most `used`. The measure is what is left of `used`.
 -- Assumes nothing.
 use Prim.Native.Nat.{◌-◌, ◌≤◌}
-use native.Mathlib.Omega.{arith}
-use borrow.Author.Rules.{rules}
 use Rattle.reorder.proofs.comparing.among.Given as goal
 
 abbrev pub invariant-loop-i : goal.invariant-loop-i

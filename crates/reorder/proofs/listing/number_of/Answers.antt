@@ -1,7 +1,6 @@
 -- Each arm computes. Assumes nothing.
 use Rattle.events.specs.Event.{says}
 use Rattle.reorder.specs.Listing.{recorded}
-use borrow.Author.Rules.{rules}
 use Rattle.reorder.proofs.listing.number_of.Goals as goal
 
 pub returns-in-Done : goal.returns-in-Done

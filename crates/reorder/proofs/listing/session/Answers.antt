@@ -1,7 +1,6 @@
 -- Each return has the event that led there. Assumes nothing.
 use mathlib.Core.Path.{sym, ap}
 use Rattle.reorder.specs.Listing.{session}
-use borrow.Author.Rules.{rules}
 use Rattle.reorder.proofs.listing.session.Goals as goal
 
 pub returns-in-Connected : goal.returns-in-Connected

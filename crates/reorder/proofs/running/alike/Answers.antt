@@ -4,9 +4,8 @@ use Prim.Native.Nat.{◌+◌, ◌-◌, ◌≤◌}
 use mathlib.Core.Path.{◌≡◌, refl, sym, ap, ◌∙◌}
 use mathlib.Core.Bool.{Bool, ◌&&◌, not}
 use native.Mathlib.Omega.{arith}
-use lib.ListN.{length, get_or, drop}
-use borrow.Author.Rules.{rules}
-use Rattle.reorder.specs.Running.{differ, record_of, same_refused}
+use lib.ListN.{get_or, drop}
+use Rattle.reorder.specs.Running.{differ, same_refused}
 use Rattle.reorder.proofs.Laws.{refused_at, refused_end, refused_none}
 use Rattle.reorder.proofs.running.alike.Goals as goal
 

@@ -1,13 +1,10 @@
 -- `reorder::running::alike` meets its contract. The loop's invariant: what is asked of all events is what is asked from `i` on. The
 -- measure is what is left of the order. Assumes nothing.
 use Prim.Native.Nat.{◌+◌, ◌-◌, ◌≤◌}
-use mathlib.Core.Path.{◌≡◌, refl, sym, ap, ◌∙◌}
-use mathlib.Core.Bool.{Bool, ◌&&◌, not}
-use native.Mathlib.Omega.{arith}
-use lib.ListN.{length, get_or, drop}
-use borrow.Author.Rules.{rules}
-use Rattle.reorder.specs.Running.{differ, record_of, same_refused}
-use Rattle.reorder.proofs.Laws.{refused_at, refused_end, refused_none}
+use mathlib.Core.Path.{◌≡◌, ◌∙◌}
+use mathlib.Core.Bool.{◌&&◌}
+use lib.ListN.{length, drop}
+use Rattle.reorder.specs.Running.{same_refused}
 use Rattle.reorder.proofs.running.alike.Given as goal
 
 abbrev pub invariant-loop-i : goal.invariant-loop-i

@@ -2,7 +2,6 @@
 use mathlib.Core.Path.{◌∙◌}
 use lib.ListN.{drop}
 use Rattle.reorder.proofs.Laws.{no_event, past_events, of_event}
-use borrow.Author.Rules.{rules}
 use Rattle.reorder.proofs.running.fits.Goals as goal
 
 pub returns-then-n-eq0 : goal.returns-then-n-eq0

@@ -2,12 +2,11 @@
 -- is asked from `i` on. The measure is what is left of the order. Assumes nothing.
 use Prim.Native.Nat.{◌+◌, ◌-◌, ◌≤◌}
 use mathlib.Core.Path.{◌≡◌, refl, sym, ap, ◌∙◌}
-use mathlib.Core.Bool.{Bool, ◌&&◌, not, not-not}
+use mathlib.Core.Bool.{Bool, ◌&&◌}
 use native.Mathlib.Omega.{arith}
 use lib.ListN.{length, drop}
 use Rattle.reorder.specs.Running.{keeps}
 use Rattle.reorder.proofs.Laws.{keeps_at, keeps_end}
-use borrow.Author.Rules.{rules}
 use Rattle.reorder.proofs.running.keeps.Goals as goal
 
 pub loop-i-init : goal.loop-i-init

@@ -3,7 +3,6 @@
 use Prim.Native.Nat.{◌-◌, ◌≤◌}
 use mathlib.Core.Path.{◌≡◌, refl, sym, ◌∙◌}
 use native.Mathlib.Omega.{arith}
-use lib.ListN.{length, drop}
 use Rattle.reorder.specs.Running.{keeps_one}
 use Rattle.reorder.proofs.Laws.{one_again, one_before, one_apart, one_behind, one_end}
 use Rattle.reorder.proofs.running.keeps_one.Goals.{then-later-n-2+else-share, else-later-n-2}

@@ -1,13 +1,9 @@
 -- `reorder::running::keeps_one` meets its contract. The loop's invariant: `i` is at least `at`, and what is asked from `at` on
 -- is what is asked from `i` on. The measure is what is left of the order. Assumes nothing.
 use Prim.Native.Nat.{◌-◌, ◌≤◌}
-use mathlib.Core.Path.{◌≡◌, refl, sym, ◌∙◌}
-use mathlib.Core.Logic.{⊎_elim}
-use native.Mathlib.Omega.{arith}
+use mathlib.Core.Path.{◌≡◌, ◌∙◌}
 use lib.ListN.{length, drop}
 use Rattle.reorder.specs.Running.{keeps_one}
-use Rattle.reorder.proofs.Laws.{one_again, one_before, one_apart, one_behind, one_end}
-use borrow.Author.Rules.{rules}
 use Rattle.reorder.proofs.running.keeps_one.Given as goal
 
 abbrev pub invariant-loop-i : goal.invariant-loop-i

@@ -1,14 +1,9 @@
 -- `reorder::running::record_of` meets its contract. The loop's invariant: what is recorded in all is what is recorded from `i` on. The measure
 -- is what is left of the order. Assumes nothing.
 use Prim.Native.Nat.{◌+◌, ◌-◌, ◌≤◌}
-use mathlib.Core.Path.{◌≡◌, refl, sym, ap, ◌∙◌}
-use mathlib.Core.Bool.{Bool, cond}
-use native.Mathlib.Omega.{arith}
-use lib.ListN.{length, get_or, drop}
-use borrow.Author.Rules.{rules}
-use borrow.Author.Tests.{eq-eqb, ne_eqb}
+use mathlib.Core.Path.{◌≡◌, ◌∙◌}
+use lib.ListN.{length, drop}
 use Rattle.reorder.specs.Running.{record_of}
-use Rattle.reorder.proofs.Laws.{record_at, record_end, record_none}
 use Rattle.reorder.proofs.running.record_of.Given as goal
 
 abbrev pub invariant-loop-i : goal.invariant-loop-i

@@ -3,8 +3,6 @@
 use Prim.Native.Nat.{◌-◌, ◌≤◌}
 use native.Mathlib.Omega.{arith}
 use mathlib.Core.Path.{sym, ◌∙◌}
-use borrow.Author.Rules.{rules}
-use lib.ListN.{length}
 use Rattle.reorder.proofs.Laws.{Running, running_none, running_more, running_end}
 use Rattle.reorder.proofs.running.run_all.Goals as goal
 

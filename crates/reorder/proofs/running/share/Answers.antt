@@ -3,7 +3,6 @@ use mathlib.Core.Path.{sym, ◌∙◌}
 use lib.Dec.{eqb}
 use Rattle.reorder.specs.Running.{share}
 use Rattle.reorder.proofs.Laws.{one_session, no_client, by_client}
-use borrow.Author.Rules.{rules}
 use Rattle.reorder.proofs.running.share.Goals as goal
 
 pub returns-then-session : goal.returns-then-session

@@ -2,7 +2,6 @@
 use lib.ListN.{length}
 use borrow.Author.Tests.{le-leb, lt-leb}
 use Rattle.reorder.specs.Saying.{part}
-use borrow.Author.Rules.{rules}
 use Rattle.reorder.proofs.saying.part.Goals as goal
 
 pub returns-then-to-from : goal.returns-then-to-from

@@ -1,6 +1,5 @@
 -- Each call has its part of the question. Assumes nothing.
 use Rattle.vectors.specs.Asking.{text_in, client_of, connect_of}
-use Rattle.std.proofs.Common.{rules}
 use Rattle.vectors.proofs.Tests.{flag_back}
 use Rattle.vectors.proofs.asking.connect_answer.Goals as goal
 

@@ -1,5 +1,5 @@
 -- Each word by its number. Assumes nothing.
-use Rattle.std.proofs.Common.{sym, ap, ◌∙◌, rules, ne_eqb}
+use Rattle.std.proofs.Common.{sym, ap, ◌∙◌, arith, ne_eqb}
 use Rattle.vectors.specs.Asking.{word_of, is_word}
 use Rattle.vectors.proofs.asking.is_word.Goals as goal
 
@@ -51,4 +51,4 @@ returns-in-10 c =
 pub returns-in_default : goal.returns-in_default
 unfolding is_word word_of
 returns-in_default c =
-    c.same-in_default.ensures ∙ sym (rw (ne_eqb _ _ c.in_default.rest.0.0.0.0.0.0.0.0.1, ne_eqb _ _ c.in_default.rest.0.0.0.0.0.0.0.1, ne_eqb _ _ c.in_default.rest.0.0.0.0.0.0.1, ne_eqb _ _ c.in_default.rest.0.0.0.0.0.1, ne_eqb _ _ c.in_default.rest.0.0.0.0.1, ne_eqb _ _ c.in_default.rest.0.0.0.1, ne_eqb _ _ c.in_default.rest.0.0.1, ne_eqb _ _ c.in_default.rest.0.1, ne_eqb _ _ c.in_default.rest.1))
+    c.same-in_default.ensures ∙ sym (rw (ne_eqb c.args.what 0 (λ e. omega arith), ne_eqb c.args.what 1 (λ e. omega arith), ne_eqb c.args.what 2 (λ e. omega arith), ne_eqb c.args.what 3 (λ e. omega arith), ne_eqb c.args.what 4 (λ e. omega arith), ne_eqb c.args.what 5 (λ e. omega arith), ne_eqb c.args.what 6 (λ e. omega arith), ne_eqb c.args.what 7 (λ e. omega arith), ne_eqb c.args.what 10 (λ e. omega arith)))

@@ -1,6 +1,5 @@
 -- Each call has its part of the question. Assumes nothing.
 use Rattle.vectors.specs.Asking.{text_in, client_of, protocol_of, subscribe_of}
-use Rattle.std.proofs.Common.{rules}
 use Rattle.vectors.proofs.Tests.{flag_back}
 use Rattle.vectors.proofs.asking.subscribe_answer.Goals as goal
 

@@ -1,5 +1,5 @@
 -- The flag of the line decides. Assumes nothing.
-use Rattle.std.proofs.Common.{sym, ap, ◌∙◌, rules}
+use Rattle.std.proofs.Common.{sym, ap, ◌∙◌}
 use Rattle.vectors.specs.Fields.{is_given}
 use Rattle.vectors.specs.Clients.{client_answer}
 use Rattle.vectors.proofs.clients.client_answer.Goals as goal

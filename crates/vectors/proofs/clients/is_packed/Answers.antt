@@ -1,5 +1,5 @@
 -- Three bytes, each against its part of the number. Assumes nothing.
-use Rattle.std.proofs.Common.{sym, arith, rules}
+use Rattle.std.proofs.Common.{sym}
 use Rattle.vectors.proofs.ClientLaws.{packed_long, packed_what, packed_value, packed_line}
 use Rattle.vectors.proofs.clients.is_packed.Goals as goal
 
@@ -7,25 +7,13 @@ pub returns-then-recorded-ne3 : goal.returns-then-recorded-ne3
 returns-then-recorded-ne3 c =
     sym (packed_long _ _ c.if-recorded-ne3.true)
 
-pub overflow_cast-recorded : goal.overflow_cast-recorded
-overflow_cast-recorded c =
-    omega (arith, c.shared_slice_known-1.given 0)
-
 pub returns-then-recorded-answer : goal.returns-then-recorded-answer
 returns-then-recorded-answer c =
     sym (packed_what _ _ c.if-recorded-ne3.false c.if-recorded-answer.true)
 
-pub overflow_cast-recorded-2 : goal.overflow_cast-recorded-2
-overflow_cast-recorded-2 c =
-    omega (arith, c.shared_slice_known-2-1.given 1)
-
 pub returns-then-recorded-answer-2 : goal.returns-then-recorded-answer-2
 returns-then-recorded-answer-2 c =
     sym (packed_value _ _ c.if-recorded-ne3.false c.if-recorded-answer-2.true)
-
-pub overflow_cast-result : goal.overflow_cast-result
-overflow_cast-result c =
-    omega (arith, c.shared_slice_known-3-1.given 2)
 
 pub returns : goal.returns
 returns c =

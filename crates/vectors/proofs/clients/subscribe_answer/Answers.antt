@@ -1,6 +1,5 @@
 -- Each call has its part of the definition. Assumes nothing.
 use Rattle.vectors.specs.Clients.{client_in, subscribe_answer}
-use Rattle.std.proofs.Common.{rules}
 use Rattle.vectors.proofs.Tests.{flag_back}
 use Rattle.vectors.proofs.clients.subscribe_answer.Goals as goal
 

@@ -1,5 +1,5 @@
 -- A text that ends before the place has no digit there. Assumes nothing.
-use Rattle.std.proofs.Common.{refl, arith, rules}
+use Rattle.std.proofs.Common.{refl, arith}
 use lib.ListN.{get_or-eq_default}
 use Rattle.vectors.specs.Fields.{digit}
 use Rattle.vectors.proofs.fields.digit.Goals as goal

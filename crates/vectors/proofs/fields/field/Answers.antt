@@ -1,5 +1,5 @@
 -- `field` is `first` of `rest`. Assumes nothing.
-use Rattle.std.proofs.Common.{ap, ◌∙◌, rules}
+use Rattle.std.proofs.Common.{ap, ◌∙◌}
 use Rattle.vectors.specs.Fields.{first, field}
 use Rattle.vectors.proofs.fields.field.Goals as goal
 

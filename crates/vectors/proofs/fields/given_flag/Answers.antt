@@ -1,5 +1,5 @@
 -- The flag is that of the test. Assumes nothing.
-use Rattle.std.proofs.Common.{ap, ◌∙◌, rules}
+use Rattle.std.proofs.Common.{ap, ◌∙◌}
 use Rattle.mqtt_acl.specs.Rules.{yes}
 use Rattle.vectors.proofs.fields.given_flag.Goals as goal
 

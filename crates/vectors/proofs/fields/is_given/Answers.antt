@@ -1,6 +1,5 @@
 -- A field without a byte has no `=`. Assumes nothing.
 use Rattle.vectors.proofs.Tests.{given_none, given_byte}
-use Rattle.std.proofs.Common.{rules}
 use Rattle.vectors.proofs.fields.is_given.Goals as goal
 
 pub returns-then-text-gt0 : goal.returns-then-text-gt0

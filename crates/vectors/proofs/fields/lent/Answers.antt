@@ -2,7 +2,6 @@
 use borrow.Author.Rules.{part_to_end}
 use Rattle.vectors.specs.Fields.{lent}
 use Rattle.vectors.proofs.Tests.{lent_none}
-use Rattle.std.proofs.Common.{rules}
 use Rattle.vectors.proofs.fields.lent.Goals as goal
 
 pub returns-then-text-eq0 : goal.returns-then-text-eq0

@@ -1,5 +1,5 @@
 -- A field of less than two bytes has no number. Assumes nothing.
-use Rattle.std.proofs.Common.{refl, rules}
+use Rattle.std.proofs.Common.{refl}
 use Rattle.vectors.specs.Fields.{number}
 use Rattle.vectors.proofs.Tests.{number_none}
 use Rattle.vectors.proofs.fields.number.Goals as goal

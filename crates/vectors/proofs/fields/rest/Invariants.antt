@@ -1,9 +1,7 @@
 -- The loop's invariant: what stands behind the TABs that are left, from `i` on, is what stands behind all of them in the line. The measure
 -- is what is left of the line. Assumes nothing.
-use Rattle.std.proofs.Common.{◌≡◌, ◌-◌, ◌≤◌, length, drop, sym, refl, ◌∙◌, ⊎_elim, arith, rules}
-use borrow.Author.Rules.{part_to_end}
+use Rattle.std.proofs.Common.{◌≡◌, ◌-◌, ◌≤◌, length, drop, ◌∙◌}
 use Rattle.vectors.specs.Fields.{rest}
-use Rattle.vectors.proofs.Laws.{rest-zero, rest_end, rest_tab, rest_other}
 use Rattle.vectors.proofs.fields.rest.Given as goal
 
 abbrev pub invariant-loop-i : goal.invariant-loop-i

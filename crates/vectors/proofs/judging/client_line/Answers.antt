@@ -1,5 +1,5 @@
 -- The answer to the line's question, against the recorded one. Assumes nothing.
-use Rattle.std.proofs.Common.{ap, ◌∙◌, ap₂, rules}
+use Rattle.std.proofs.Common.{ap, ◌∙◌, ap₂}
 use Rattle.vectors.specs.declared.judging.Kind.TheVariants.{Client}
 use Rattle.vectors.specs.Clients.{is_packed}
 use Rattle.vectors.specs.Judging.{verdict, asked}

@@ -1,5 +1,5 @@
 -- Each return has the tests of `compared` that led there. Assumes nothing.
-use Rattle.std.proofs.Common.{sym, refl, ◌∙◌, rules}
+use Rattle.std.proofs.Common.{sym, refl, ◌∙◌}
 use Rattle.vectors.proofs.Tests.{compared_by}
 use Rattle.vectors.proofs.judging.compared.Goals as goal
 

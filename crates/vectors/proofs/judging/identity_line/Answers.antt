@@ -1,7 +1,6 @@
 -- The answer to the line's question, against the recorded one: each call has its part of the definition. Assumes nothing.
 use Rattle.vectors.specs.Asking.{text_in}
 use Rattle.vectors.specs.Judging.{identity_asked, asked}
-use Rattle.std.proofs.Common.{rules}
 use Rattle.vectors.proofs.Tests.{flag_back}
 use Rattle.vectors.proofs.judging.identity_line.Goals as goal
 

@@ -1,15 +1,11 @@
 -- A digit is a word of one byte. Assumes nothing.
-use Rattle.std.proofs.Common.{sym, arith, rules}
+use Rattle.std.proofs.Common.{sym}
 use Rattle.vectors.proofs.Tests.{digit_long, digit_one}
 use Rattle.vectors.proofs.judging.is_digit.Goals as goal
 
 pub returns-then-recorded-ne1 : goal.returns-then-recorded-ne1
 returns-then-recorded-ne1 c =
     sym (digit_long _ _ c.if-recorded-ne1.true)
-
-pub overflow_cast-result : goal.overflow_cast-result
-overflow_cast-result c =
-    omega (arith, c.shared_slice_known-1.given 0)
 
 pub returns : goal.returns
 returns c =

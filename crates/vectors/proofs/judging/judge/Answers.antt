@@ -1,5 +1,5 @@
 -- The first field names the kind, and each arm has its function. Assumes nothing.
-use Rattle.std.proofs.Common.{sym, ap, ◌∙◌, rules}
+use Rattle.std.proofs.Common.{sym, ap, ◌∙◌}
 use Rattle.vectors.specs.declared.judging.Named.TheVariants.{Of}
 use Rattle.vectors.specs.Judging.{judge_named}
 use Rattle.vectors.proofs.Tests.{judge_by}

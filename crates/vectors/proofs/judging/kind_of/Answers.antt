@@ -1,5 +1,5 @@
 -- A word of one byte is decided by that byte. Assumes nothing.
-use Rattle.std.proofs.Common.{sym, rules}
+use Rattle.std.proofs.Common.{sym, arith}
 use Rattle.text.specs.Text.{same}
 use Rattle.vectors.specs.Judging.{kind_of}
 use Rattle.vectors.proofs.Tests.{kind_letter, kind_other, kind_long}
@@ -56,4 +56,4 @@ returns-in-67 c =
 
 pub returns-in_default : goal.returns-in_default
 returns-in_default c =
-    sym (kind_other _ c.if-word-ne1.false c.in_default.rest.0.0.0.0.0.0.0.0.1 c.in_default.rest.0.0.0.0.0.0.0.1 c.in_default.rest.0.0.0.0.0.0.1 c.in_default.rest.0.0.0.0.0.1 c.in_default.rest.0.0.0.0.1 c.in_default.rest.0.0.0.1 c.in_default.rest.0.0.1 c.in_default.rest.0.1 c.in_default.rest.1)
+    sym (kind_other _ c.if-word-ne1.false (λ e. omega arith) (λ e. omega arith) (λ e. omega arith) (λ e. omega arith) (λ e. omega arith) (λ e. omega arith) (λ e. omega arith) (λ e. omega arith) (λ e. omega arith))

@@ -1,5 +1,5 @@
 -- The answer to the line's question, against the recorded one. Assumes nothing.
-use Rattle.std.proofs.Common.{ap, ◌∙◌, ap₂, rules}
+use Rattle.std.proofs.Common.{ap, ◌∙◌, ap₂}
 use Rattle.mqtt_acl.specs.Rules.{refusal_of}
 use Rattle.vectors.specs.declared.judging.Kind.TheVariants.{RuleLine}
 use Rattle.vectors.specs.Judging.{verdict, is_digit, asked}

@@ -1,5 +1,5 @@
 -- The answer to the line's question, against the recorded one. Assumes nothing.
-use Rattle.std.proofs.Common.{ap, ◌∙◌, ap₂, rules}
+use Rattle.std.proofs.Common.{ap, ◌∙◌, ap₂}
 use Rattle.topic.specs.Topic.{valid_filter}
 use Rattle.vectors.specs.declared.judging.Kind.TheVariants.{Valid}
 use Rattle.vectors.specs.Judging.{compared, asked}

@@ -1,5 +1,5 @@
 -- The answer to the line's question, against the recorded one. Assumes nothing.
-use Rattle.std.proofs.Common.{ap, ◌∙◌, ap₂, rules}
+use Rattle.std.proofs.Common.{ap, ◌∙◌, ap₂}
 use Rattle.json_text.specs.Json.{line_value}
 use Rattle.json_text.specs.Access.{document_within}
 use Rattle.vectors.specs.declared.judging.Kind.TheVariants.{Within}

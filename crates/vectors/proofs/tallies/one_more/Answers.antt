@@ -1,6 +1,5 @@
 -- One place of the array is written. Assumes nothing.
 use Rattle.vectors.specs.Tallies.{one_more}
-use Rattle.std.proofs.Common.{rules}
 use Rattle.vectors.proofs.tallies.one_more.Goals as goal
 
 pub returns : goal.returns

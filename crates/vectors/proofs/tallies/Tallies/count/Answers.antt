@@ -1,6 +1,5 @@
 -- Each case of the line is one of `counted`. Assumes nothing.
 use Rattle.vectors.specs.Tallies.{counted}
-use Rattle.std.proofs.Common.{rules}
 use Rattle.vectors.proofs.tallies.Tallies.count.Goals as goal
 
 pub returns-in-Agrees : goal.returns-in-Agrees
