@@ -1,5 +1,5 @@
 -- What a recorded line means, and whether the definitions of document 01 give its answer.
-use Rattle.std.specs.Prelude.{ℕ, ◌+◌, ◌/◌, ◌%◌, Bool, true, false, cond, not, ◌&&◌, List, [], ◌∷◌, replicate}
+use Rattle.std.specs.Prelude.{ℕ, ◌+◌, ◌/◌, ◌%◌, Bool, cond, not, ◌&&◌, List, [], ◌∷◌, replicate}
 use Rattle.text.specs.Ascii.{ascii}
 use Rattle.text.specs.Text.{same}
 use Rattle.topic.specs.Topic.{valid_filter, tree_match, plain_match}
@@ -9,7 +9,7 @@ use Rattle.questions.specs.Question.{Question}
 use Rattle.questions.specs.Decision.{ask}
 use Rattle.mqtt_acl.specs.Rules.{where_true, refusal_of, identity_of}
 use Rattle.mqtt_acl.specs.Answers.{packed}
-use Rattle.vectors.specs.Fields.{rest, field, is_given, lent, number}
+use Rattle.vectors.specs.Fields.{rest, field, is_given, number}
 use Rattle.vectors.specs.Asking.{fits, opened, text_in, connect_of, subscribe_of, publish_of, is_word}
 use Rattle.vectors.specs.Clients.{client_answer, is_packed}
 use Rattle.vectors.specs.declared.judging.Kind.{Kind}

@@ -1,7 +1,7 @@
 -- `reorder::running::alike` meets its contract. The loop's invariant: what is asked of all events is what is asked from `i` on. The
 -- measure is what is left of the order. Assumes nothing.
-use Prim.Native.Nat.{◌+◌, ◌-◌, ◌≤◌}
-use mathlib.Core.Path.{◌≡◌, refl, sym, ap, ◌∙◌}
+use Prim.Native.Nat.{◌+◌}
+use mathlib.Core.Path.{refl, sym, ap, ◌∙◌}
 use mathlib.Core.Bool.{Bool, ◌&&◌, not}
 use native.Mathlib.Omega.{arith}
 use lib.ListN.{get_or, drop}

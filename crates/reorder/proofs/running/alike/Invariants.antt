@@ -1,8 +1,7 @@
 -- `reorder::running::alike` meets its contract. The loop's invariant: what is asked of all events is what is asked from `i` on. The
 -- measure is what is left of the order. Assumes nothing.
-use Prim.Native.Nat.{◌+◌, ◌-◌, ◌≤◌}
-use mathlib.Core.Path.{◌≡◌, ◌∙◌}
-use mathlib.Core.Bool.{◌&&◌}
+use Prim.Native.Nat.{◌-◌, ◌≤◌}
+use mathlib.Core.Path.{◌≡◌}
 use lib.ListN.{length, drop}
 use Rattle.reorder.specs.Running.{same_refused}
 use Rattle.reorder.proofs.running.alike.Given as goal

@@ -1,10 +1,10 @@
 -- `reorder::running::keeps` meets its contract. The loop's invariant: `i` is at most the length, and what is asked of the whole order is what
 -- is asked from `i` on. The measure is what is left of the order. Assumes nothing.
-use Prim.Native.Nat.{◌+◌, ◌-◌, ◌≤◌}
-use mathlib.Core.Path.{◌≡◌, refl, sym, ap, ◌∙◌}
+use Prim.Native.Nat.{◌+◌}
+use mathlib.Core.Path.{refl, sym, ap, ◌∙◌}
 use mathlib.Core.Bool.{Bool, ◌&&◌}
 use native.Mathlib.Omega.{arith}
-use lib.ListN.{length, drop}
+use lib.ListN.{drop}
 use Rattle.reorder.specs.Running.{keeps}
 use Rattle.reorder.proofs.Laws.{keeps_at, keeps_end}
 use Rattle.reorder.proofs.running.keeps.Goals as goal

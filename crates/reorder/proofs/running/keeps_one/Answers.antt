@@ -1,9 +1,7 @@
 -- `reorder::running::keeps_one` meets its contract. The loop's invariant: `i` is at least `at`, and what is asked from `at` on
 -- is what is asked from `i` on. The measure is what is left of the order. Assumes nothing.
-use Prim.Native.Nat.{◌-◌, ◌≤◌}
-use mathlib.Core.Path.{◌≡◌, refl, sym, ◌∙◌}
+use mathlib.Core.Path.{refl, sym, ◌∙◌}
 use native.Mathlib.Omega.{arith}
-use Rattle.reorder.specs.Running.{keeps_one}
 use Rattle.reorder.proofs.Laws.{one_again, one_before, one_apart, one_behind, one_end}
 use Rattle.reorder.proofs.running.keeps_one.Goals.{then-later-n-2+else-share, else-later-n-2}
 use Rattle.reorder.proofs.running.keeps_one.Goals as goal

@@ -1,7 +1,7 @@
 -- `reorder::running::keeps_one` meets its contract. The loop's invariant: `i` is at least `at`, and what is asked from `at` on
 -- is what is asked from `i` on. The measure is what is left of the order. Assumes nothing.
 use Prim.Native.Nat.{◌-◌, ◌≤◌}
-use mathlib.Core.Path.{◌≡◌, ◌∙◌}
+use mathlib.Core.Path.{◌≡◌}
 use lib.ListN.{length, drop}
 use Rattle.reorder.specs.Running.{keeps_one}
 use Rattle.reorder.proofs.running.keeps_one.Given as goal

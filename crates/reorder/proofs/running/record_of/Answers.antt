@@ -1,7 +1,7 @@
 -- `reorder::running::record_of` meets its contract. The loop's invariant: what is recorded in all is what is recorded from `i` on. The measure
 -- is what is left of the order. Assumes nothing.
-use Prim.Native.Nat.{◌+◌, ◌-◌, ◌≤◌}
-use mathlib.Core.Path.{◌≡◌, refl, sym, ap, ◌∙◌}
+use Prim.Native.Nat.{◌+◌}
+use mathlib.Core.Path.{refl, sym, ap, ◌∙◌}
 use mathlib.Core.Bool.{Bool, cond}
 use native.Mathlib.Omega.{arith}
 use lib.ListN.{get_or, drop}

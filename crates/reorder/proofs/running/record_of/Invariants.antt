@@ -1,7 +1,7 @@
 -- `reorder::running::record_of` meets its contract. The loop's invariant: what is recorded in all is what is recorded from `i` on. The measure
 -- is what is left of the order. Assumes nothing.
-use Prim.Native.Nat.{◌+◌, ◌-◌, ◌≤◌}
-use mathlib.Core.Path.{◌≡◌, ◌∙◌}
+use Prim.Native.Nat.{◌-◌, ◌≤◌}
+use mathlib.Core.Path.{◌≡◌}
 use lib.ListN.{length, drop}
 use Rattle.reorder.specs.Running.{record_of}
 use Rattle.reorder.proofs.running.record_of.Given as goal

@@ -1,9 +1,8 @@
 -- The loop's invariant: what is left of the order, run on the store as it is, gives what the whole order gives on the store as it was, and the
 -- records of what is left come after those that are there (`Running`). The measure is what is left of the order. Assumes nothing.
-use Prim.Native.Nat.{◌-◌, ◌≤◌}
 use native.Mathlib.Omega.{arith}
 use mathlib.Core.Path.{sym, ◌∙◌}
-use Rattle.reorder.proofs.Laws.{Running, running_none, running_more, running_end}
+use Rattle.reorder.proofs.Laws.{running_none, running_more, running_end}
 use Rattle.reorder.proofs.running.run_all.Goals as goal
 
 pub loop-i-init : goal.loop-i-init

@@ -1,7 +1,6 @@
 -- The loop's invariant: what is left of the order, run on the store as it is, gives what the whole order gives on the store as it was, and the
 -- records of what is left come after those that are there (`Running`). The measure is what is left of the order. Assumes nothing.
 use Prim.Native.Nat.{◌-◌, ◌≤◌}
-use mathlib.Core.Path.{◌∙◌}
 use lib.ListN.{length}
 use Rattle.reorder.proofs.Laws.{Running}
 use Rattle.reorder.proofs.running.run_all.Given as goal

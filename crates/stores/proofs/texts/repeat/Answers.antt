@@ -1,6 +1,6 @@
 -- `stores::texts::repeat` meets its contract. The loop's invariant: `i` is at most the length, which stays, and the bytes before `i`, with
 -- those that the line gives from there on, are the line over and over. The measure is what is left of the length. Assumes nothing.
-use Rattle.std.proofs.Common.{◌≡◌, ◌-◌, ◌≤◌, ◌++◌, length, sym, refl, ap, ◌∙◌, mod-lt, arith, length-set}
+use Rattle.std.proofs.Common.{sym, refl, ap, ◌∙◌, mod-lt, arith, length-set}
 use native.Mathlib.Nat.{sub-zero}
 use Rattle.stores.specs.Texts.{over_from}
 use Rattle.stores.proofs.Laws.{none_repeated, goes_on, all_over}

@@ -1,5 +1,5 @@
 -- The rules' text stands at the front of the buffer. Assumes nothing.
-use Rattle.std.proofs.Common.{sym, length-take-le, rules}
+use Rattle.std.proofs.Common.{sym, length-take-le}
 use Rattle.vectors.specs.Asking.{rule_text}
 use Rattle.vectors.proofs.AskingLaws.{rules_over, rules_room, rules-opened}
 use Rattle.vectors.proofs.asking.open_rules.Goals as goal

@@ -1,7 +1,6 @@
 -- The loop's invariant: the first `i` bytes are no TAB, and what follows them before the first TAB ends the answer. The measure is what is
 -- left of the text. Assumes nothing.
-use Rattle.std.proofs.Common.{◌≡◌, ◌-◌, ◌≤◌, ◌++◌, sym, refl, ◌∙◌, arith, length-take-le}
-use Rattle.vectors.specs.Fields.{first}
+use Rattle.std.proofs.Common.{sym, refl, ◌∙◌, arith, length-take-le}
 use Rattle.vectors.proofs.Laws.{first_end, first-tab, first_other}
 use Rattle.vectors.proofs.fields.first.Goals as goal
 

@@ -1,6 +1,6 @@
 -- The loop's invariant: the first `i` bytes are no TAB, and what follows them before the first TAB ends the answer. The measure is what is
 -- left of the text. Assumes nothing.
-use Rattle.std.proofs.Common.{◌≡◌, ◌-◌, ◌≤◌, ◌++◌, length, take, drop, ◌∙◌}
+use Rattle.std.proofs.Common.{◌≡◌, ◌-◌, ◌≤◌, ◌++◌, length, take, drop}
 use Rattle.vectors.specs.Fields.{first}
 use Rattle.vectors.proofs.fields.first.Given as goal
 

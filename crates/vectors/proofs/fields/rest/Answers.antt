@@ -1,6 +1,6 @@
 -- The loop's invariant: what stands behind the TABs that are left, from `i` on, is what stands behind all of them in the line. The measure
 -- is what is left of the line. Assumes nothing.
-use Rattle.std.proofs.Common.{◌≡◌, ◌-◌, ◌≤◌, sym, refl, ◌∙◌, arith}
+use Rattle.std.proofs.Common.{sym, refl, ◌∙◌, arith}
 use borrow.Author.Rules.{part_to_end}
 use Rattle.vectors.proofs.Laws.{rest-zero, rest_end, rest_tab, rest_other}
 use Rattle.vectors.proofs.fields.rest.Goals as goal

@@ -1,6 +1,6 @@
 -- The loop's invariant: what stands behind the TABs that are left, from `i` on, is what stands behind all of them in the line. The measure
 -- is what is left of the line. Assumes nothing.
-use Rattle.std.proofs.Common.{◌≡◌, ◌-◌, ◌≤◌, length, drop, ◌∙◌}
+use Rattle.std.proofs.Common.{◌≡◌, ◌-◌, ◌≤◌, length, drop}
 use Rattle.vectors.specs.Fields.{rest}
 use Rattle.vectors.proofs.fields.rest.Given as goal
 
