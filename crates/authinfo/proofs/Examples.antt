@@ -9,11 +9,11 @@ use lib.ListN.{replicate}
 use Rattle.text.specs.Ascii.{ascii}
 use Rattle.text.specs.Text.{same, begins, contains, occurs, replace_from, replace}
 use Rattle.topic.specs.Topic.{extend_first, with_byte, levels, is_only, wildcard_free, valid_levels, valid_filter, metadata, ends, takes_level, takes, dollar_rule, levels_match, plain_match}
-use Rattle.json_text.specs.Lines.{extend_line, with_byte as withLineByte, lines}
+use Rattle.json_text.specs.Lines.{extend_line, with_byte as with_line_byte, lines}
 use Rattle.json_text.specs.Utf8.{between, lead_size, second, tail, sequence, utf8}
 use Rattle.json_text.specs.Strings.{escape, raw_piece, piece_of, grown, string_from, string_at}
-use Rattle.json_text.specs.Json.{is_at, is_blank, blanks, skip_blanks, kind_of, digits, decimal, plain_number, number_at, word_at, text_at, read_as, separator_at, items_at, bracket_at, element_at, name_at, member_at, array_at, object_at, value_with, value_at, line_value, longest, longestElement, longestMember}
-use Rattle.rule.specs.Rule.{named, as_text, as_number, as_bool, as_array, member_named_lem}
+use Rattle.json_text.specs.Json.{is_at, is_blank, blanks, skip_blanks, kind_of, digits, decimal, plain_number, number_at, word_at, text_at, read_as, separator_at, items_at, bracket_at, element_at, name_at, member_at, array_at, object_at, value_with, value_at, line_value, longest, longest_element, longest_member}
+use Rattle.rule.specs.Rule.{named, as_text, as_number, as_bool, as_array, value_named}
 use Rattle.rule.specs.Refusals.{number}
 use Rattle.authinfo.specs.ClientRule.{permission_word, action_word, text_named, qos_level, qos_in, qos_value, qos_of, topic_of, rule_in, configured, put_if, fill_for, filled_topic, with_topic, filled_rule, rule_from, read_line}
 use Rattle.authinfo.specs.Decision.{Client, Question, subscribe, publish, subscribes, publishes, not_authorized, no_decision, Reply, refuses, decides, qos_asked, topic_asked, covers, among, qos_hits, publish_retain, retain_hits, topic_hits, hits, with_rule, read_lines, first_hit, allowance, refusal, by_rule, decision, refuse, on_text, name_over, causes, first_fault, ask}
@@ -153,5 +153,5 @@ examples =
     ∷ []
 
 pub evaluated : map (λ e. outcome e.0) examples ≡ map (λ e. e.1) examples
-unfolding same begins contains occurs replace_from replace extend_first with_byte levels is_only wildcard_free valid_levels valid_filter metadata ends takes_level takes dollar_rule levels_match plain_match extend_line withLineByte lines between lead_size second tail sequence utf8 escape raw_piece piece_of grown string_from string_at is_at is_blank blanks skip_blanks kind_of digits decimal plain_number number_at word_at text_at read_as separator_at items_at bracket_at element_at name_at member_at array_at object_at value_with value_at line_value longest longestElement longestMember named as_text as_number as_bool as_array member_named_lem number permission_word action_word text_named qos_level qos_in qos_value qos_of topic_of rule_in configured put_if fill_for filled_topic with_topic filled_rule rule_from read_line qos_asked topic_asked covers among qos_hits publish_retain retain_hits topic_hits hits with_rule read_lines first_hit allowance refusal by_rule decision refuse on_text name_over causes first_fault ask over_nanoseconds below expiry_over is_expired expiry bind
+unfolding same begins contains occurs replace_from replace extend_first with_byte levels is_only wildcard_free valid_levels valid_filter metadata ends takes_level takes dollar_rule levels_match plain_match extend_line with_line_byte lines between lead_size second tail sequence utf8 escape raw_piece piece_of grown string_from string_at is_at is_blank blanks skip_blanks kind_of digits decimal plain_number number_at word_at text_at read_as separator_at items_at bracket_at element_at name_at member_at array_at object_at value_with value_at line_value longest longest_element longest_member named as_text as_number as_bool as_array value_named number permission_word action_word text_named qos_level qos_in qos_value qos_of topic_of rule_in configured put_if fill_for filled_topic with_topic filled_rule rule_from read_line qos_asked topic_asked covers among qos_hits publish_retain retain_hits topic_hits hits with_rule read_lines first_hit allowance refusal by_rule decision refuse on_text name_over causes first_fault ask over_nanoseconds below expiry_over is_expired expiry bind
 evaluated = refl

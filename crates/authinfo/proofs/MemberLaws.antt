@@ -9,7 +9,7 @@ use lib.ListN.{length}
 use Rattle.text.specs.Ascii.{ascii}
 use Rattle.text.specs.Text.{same}
 use Rattle.json_text.specs.Strings.{Decoded, string_at}
-use Rattle.json_text.specs.Json.{Json, null, bool, number, text, array, object, Members, no_member, member, Read, value_at, depth_limit, longest, longestMember}
+use Rattle.json_text.specs.Json.{Json, null, bool, number, text, array, object, Members, no_member, member, Read, value_at, depth_limit, longest, longest_member}
 use Rattle.json_text.specs.Access.{value_here, first_item, item_step, last_named, named_in, member_named, string_is, decoded_length, truth_of}
 use Rattle.json_text.specs.declared.Place.{Place}
 use Rattle.json_text.specs.declared.Place.TheVariants.{At, Nowhere}
@@ -21,7 +21,7 @@ use Rattle.json_text.proofs.ValueLaws.{members_from}
 use Rattle.json_text.proofs.AccessSteps.{last_in, named_from, named_by, named_behind, named_on, named_step}
 use Rattle.json_text.proofs.AccessLaws.{MembersIn, object_is, named_is, truth_is, length-is, string_here, text_of as text_in}
 use Rattle.rule.specs.Limits.{text_limit}
-use Rattle.rule.specs.Rule.{Value, named, member_named_lem, as_text, as_bool}
+use Rattle.rule.specs.Rule.{Value, named, value_named, as_text, as_bool}
 use Rattle.rule.specs.Members.{truth_from}
 use Rattle.authinfo.specs.ClientRule.{permission_word, action_word, topic_of}
 use Rattle.authinfo.specs.Places.{places_at, noted_at, permission_here, action_here, flag_of, taken_by, filled_for, topic_takes, text_of, ShortAt, ShortTopic, topic_from}
@@ -110,21 +110,21 @@ Stands line Nowhere (some v) = ⊥
 Stands line (At p) none = ⊥
 Stands line (At p) (some v) = (next : ℕ) × (value_here line p ≡ some (record { value = v.value; next = next })) × (longest v.value ≤ text_limit)
 
-last_stands : (name line : List ℕ) (low high : ℕ) (ms : Members) (place : Place) (found : Option Value) → MembersIn line low high ms → longestMember ms ≤ text_limit
+last_stands : (name line : List ℕ) (low high : ℕ) (ms : Members) (place : Place) (found : Option Value) → MembersIn line low high ms → longest_member ms ≤ text_limit
     → Stands line place found → Stands line (last_named name ms place) (named name ms found)
-unfolding last_named named longestMember
+unfolding last_named named longest_member
 last_stands name line low high no_member place found h l k = k
-last_stands name line low high (member at n value_at_lem value rest) place found h l k =
-    last_stands name line h.0 high rest (cond (same n name) (At value_at_lem) place) (cond (same n name) (some (record { at = value_at_lem; value = value })) found) h.3
+last_stands name line low high (member at n value_start value rest) place found h l k =
+    last_stands name line h.0 high rest (cond (same n name) (At value_start) place) (cond (same n name) (some (record { at = value_start; value = value })) found) h.3
     (omega arith) (by (same n name))
   where
-    by : (b : Bool) → Stands line (cond b (At value_at_lem) place) (cond b (some (record { at = value_at_lem; value = value })) found)
+    by : (b : Bool) → Stands line (cond b (At value_start) place) (cond b (some (record { at = value_start; value = value })) found)
     by true = (h.0, h.2.reads, omega arith)
     by false = k
 
 pub member_stands : (name line : List ℕ) (at : ℕ) {ms : Members} {next : ℕ} → value_here line at ≡ some (record { value = object ms; next = next })
-    → longestMember ms ≤ text_limit → Stands line (member_named name line at) (member_named_lem name ms)
-unfolding member_named_lem named_in
+    → longest_member ms ≤ text_limit → Stands line (member_named name line at) (value_named name ms)
+unfolding value_named named_in
 member_stands name line at {ms} e h =
     subst (λ (p : Place). Stands line p (named name ms none)) (sym (named_is name line at e))
     (last_stands name line _ _ ms Nowhere none (object_is line at e refl).members h tt)

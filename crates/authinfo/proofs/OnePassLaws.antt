@@ -9,7 +9,7 @@ use lib.ListN.{length, take, drop, length-take}
 use Rattle.text.specs.Ascii.{ascii}
 use Rattle.text.specs.Text.{same}
 use Rattle.text.proofs.Laws.{same_true}
-use Rattle.json_text.specs.Json.{text, object, Members, is_at, skip_blanks, separator_at, longest, longestMember}
+use Rattle.json_text.specs.Json.{text, object, Members, is_at, skip_blanks, separator_at, longest, longest_member}
 use Rattle.json_text.specs.Access.{value_here, string_is, last_named, named_in, member_named}
 use Rattle.json_text.specs.Plain.{plain_text}
 use Rattle.json_text.specs.declared.Separator.TheVariants.{Close, Comma}
@@ -158,7 +158,7 @@ places_in_lem line at {ms} e =
 pub record ObjectTo (line : List ℕ) (at : ℕ) (m : RulePlaces) (end : ℕ) : Type 0 where
   pub members : Members
   pub reads : value_here line at ≡ some (record { value = object members; next = end })
-  pub short : longestMember members ≤ text_limit
+  pub short : longest_member members ≤ text_limit
   pub are : m ≡ places_in members no_places
 
 -- what was found of the object's members before a place: where members stand from there on, the object ends behind them, and their places

@@ -10,7 +10,7 @@ use lib.Dec.{eqb, leb}
 use lib.ListN.{length}
 use borrow.Author.Tests.{lt-ltb, le-ltb}
 use Rattle.text.specs.Ascii.{ascii}
-use Rattle.json_text.specs.Json.{Json, null, bool, number, text, array, object, Elements, no_element, element, Members, skip_blanks, depth_limit, line_value, longest, longestMember}
+use Rattle.json_text.specs.Json.{Json, null, bool, number, text, array, object, Elements, no_element, element, Members, skip_blanks, depth_limit, line_value, longest, longest_member}
 use Rattle.json_text.specs.Access.{checked, value_here, string_is, number_here, kind_at, first_item, next_item, named_in, member_named}
 use Rattle.json_text.specs.declared.Checked.TheVariants.{Invalid, Valid}
 use Rattle.json_text.specs.declared.Kind.{Kind}
@@ -24,7 +24,7 @@ use Rattle.json_text.proofs.ValueLaws.{value_next}
 use Rattle.json_text.proofs.AccessSteps.{kind_is}
 use Rattle.json_text.proofs.AccessLaws.{ElementsIn, element_place, array_is, kind_is_lem, named_is, number_of, number_is, line_is}
 use Rattle.rule.specs.Limits.{line_limit, text_limit}
-use Rattle.rule.specs.Rule.{Value, as_number, as_array, member_named_lem}
+use Rattle.rule.specs.Rule.{Value, as_number, as_array, value_named}
 use Rattle.rule.specs.RuleText.{Result, refused, gives}
 use Rattle.rule.specs.Members.{truth_from}
 use Rattle.rule.specs.declared.Refusal.TheVariants.{TooLong, NotJson, NotARule}
@@ -360,11 +360,11 @@ module _ (a : Asked) (topic : List ℕ) where
 -- ---- a line
 
 module _ (line : List ℕ) (at : ℕ) (a : Asked) (topic id : List ℕ) (name : Option (List ℕ)) where
-  object_says : {ms : Members} {next : ℕ} → value_here line at ≡ some (record { value = object ms; next = next }) → longestMember ms ≤ text_limit
+  object_says : {ms : Members} {next : ℕ} → value_here line at ≡ some (record { value = object ms; next = next }) → longest_member ms ≤ text_limit
       → rule_says line (places_at line at) a id name topic ≡ line_says (question_of a topic) (filled_rule id name (rule_in ms))
   unfolding places_at rule_in text_named
   object_says {ms} e h =
-      let stands : (n : List ℕ) → Stands line (member_named n line at) (member_named_lem n ms) = λ n. member_stands n line at e h in
+      let stands : (n : List ℕ) → Stands line (member_named n line at) (value_named n ms) = λ n. member_stands n line at e h in
       rule_by line (places_at line at) a id name topic
       (permission_stands line _ _ (stands (ascii "permission")))
       (action_stands line _ _ (stands (ascii "action")))
@@ -395,7 +395,7 @@ value_short line at (bool b) e h = subst (ShortTopic line) (sym (named_is (ascii
 value_short line at (number n) e h = subst (ShortTopic line) (sym (named_is (ascii "topic") line at e)) tt
 value_short line at (text t) e h = subst (ShortTopic line) (sym (named_is (ascii "topic") line at e)) tt
 value_short line at (array es) e h = subst (ShortTopic line) (sym (named_is (ascii "topic") line at e)) tt
-value_short line at (object ms) e h = short_stands line (member_named (ascii "topic") line at) (member_named_lem (ascii "topic") ms) (member_stands (ascii "topic") line at e h)
+value_short line at (object ms) e h = short_stands line (member_named (ascii "topic") line at) (value_named (ascii "topic") ms) (member_stands (ascii "topic") line at e h)
 
 pub short_line : (line : List ℕ) {n : ℕ} → checked (line_value line) ≡ Valid n → n ≤ text_limit → ShortTopic line (places_at line (skip_blanks line 0)).topic
 unfolding checked places_at

@@ -7,7 +7,7 @@ use Rattle.text.specs.Text.{same, begins, contains, replace}
 use Rattle.topic.specs.Topic.{valid_filter}
 use Rattle.json_text.specs.Json.{Json, null, bool, number, text, array, object, Elements, no_element, element, Members, line_value, longest}
 use Rattle.rule.specs.Limits.{line_limit, text_limit}
-use Rattle.rule.specs.Rule.{Value, as_text, as_number, as_bool, as_array, member_named_lem}
+use Rattle.rule.specs.Rule.{Value, as_text, as_number, as_bool, as_array, value_named}
 use Rattle.rule.specs.RuleText.{Result, refused, gives}
 use Rattle.rule.specs.declared.Refusal.TheVariants.{TooLong, NotJson, NotARule, FilledTooLong}
 use Rattle.authinfo.specs.declared.Action.{Action}
@@ -37,7 +37,7 @@ action_word t =
 
 -- the string that a member has
 unfoldable pub text_named : List ℕ → Members → Option (List ℕ)
-text_named name ms = map (λ t. t.text) (bind (member_named_lem name ms) as_text)
+text_named name ms = map (λ t. t.text) (bind (value_named name ms) as_text)
 
 -- "each modulo 256 and then 0 to 2"
 unfoldable pub qos_level : ℕ → Option ℕ
@@ -78,7 +78,7 @@ rule_in ms =
     (λ allow.
     bind (bind (text_named (ascii "action") ms) action_word)
     (λ action.
-    bind (qos_of (member_named_lem (ascii "qos") ms))
+    bind (qos_of (value_named (ascii "qos") ms))
     (λ qos.
     map
     (λ topic.
@@ -86,7 +86,7 @@ rule_in ms =
       allow = allow;
       action = action;
       qos = qos;
-      retain = bind (member_named_lem (ascii "retain") ms) as_bool;
+      retain = bind (value_named (ascii "retain") ms) as_bool;
       topic = topic;
     })
     (bind (text_named (ascii "topic") ms) topic_of))))
@@ -104,7 +104,7 @@ clientid = ascii "${clientid}"
 
 -- `new` for each `word` of the text, "only if the configured topic held it"
 unfoldable pub put_if : List ℕ → List ℕ → List ℕ → List ℕ → List ℕ
-put_if word new configuredTopic t = cond (contains word configuredTopic) (replace word new t) t
+put_if word new configured_topic t = cond (contains word configured_topic) (replace word new t) t
 
 -- "`${username}`, then `${clientid}` are replaced .. Without a user name such a topic is refused (`${username}` only)"
 unfoldable pub fill_for : List ℕ → Option (List ℕ) → List ℕ → Option (List ℕ)

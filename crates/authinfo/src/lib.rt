@@ -15,7 +15,7 @@ use json_text::Place;
 use rule::Refusal;
 
 // Which questions a rule covers.
-#[derive(Drop)]
+#[derive(Clone, Copy)]
 pub enum Action {
     All,
     Publish,
@@ -30,7 +30,7 @@ pub enum Asked {
 }
 
 // Allowed by a rule, or rule 0 for a superuser, with the asked QoS; refused by a rule; no rule hits; refused by number, with the line.
-#[derive(Drop)]
+#[derive(Clone, Copy)]
 pub enum SubscribeAnswer {
     Allow(usize, u64),
     Refuse(usize),
@@ -39,7 +39,7 @@ pub enum SubscribeAnswer {
 }
 
 // Refused with the caller's disconnect flag.
-#[derive(Drop)]
+#[derive(Clone, Copy)]
 pub enum PublishAnswer {
     Allow(usize),
     Refuse(usize, bool),
@@ -48,7 +48,7 @@ pub enum PublishAnswer {
 }
 
 // The values of an object's members that say something of a rule, by their places.
-#[derive(Drop)]
+#[derive(Clone, Copy)]
 pub struct RulePlaces {
     pub permission: Place,
     pub action: Place,
@@ -57,20 +57,20 @@ pub struct RulePlaces {
     pub topic: Place,
 }
 
-#[derive(Drop)]
+#[derive(Clone, Copy)]
 pub enum PermissionRead {
     Is(bool),
     Bad,
 }
 
-#[derive(Drop)]
+#[derive(Clone, Copy)]
 pub enum ActionRead {
     Is(Action),
     Bad,
 }
 
 // What an object's members tell of a rule: two words, three values by their places, and the topic's closing quote if its string is plain.
-#[derive(Drop)]
+#[derive(Clone, Copy)]
 pub struct RuleParts {
     pub permission: PermissionRead,
     pub action: ActionRead,
@@ -81,35 +81,35 @@ pub struct RuleParts {
 }
 
 // What a line that was passed over tells of a rule; or that it was not.
-#[derive(Drop)]
+#[derive(Clone, Copy)]
 pub enum LinePassed {
     Parts(RuleParts),
     Unread,
 }
 
 // A rule's QoS: does it take the asked one?
-#[derive(Drop)]
+#[derive(Clone, Copy)]
 pub enum QosRead {
     Takes(bool),
     Bad,
 }
 
 // A rule's topic, filled: does it take the asked one?
-#[derive(Drop)]
+#[derive(Clone, Copy)]
 pub enum TopicRead {
     Takes(bool),
     Refused(Refusal),
 }
 
 // What a rule says to a question.
-#[derive(Drop)]
+#[derive(Clone, Copy)]
 pub enum Verdict {
     Misses,
     Allows,
     Denies,
 }
 
-#[derive(Drop)]
+#[derive(Clone, Copy)]
 pub enum LineRead {
     Says(Verdict),
     Refused(Refusal),
@@ -117,7 +117,7 @@ pub enum LineRead {
 
 // The first rule that hits, with its number from 1, or 0 for a superuser, and its permission; that none does; or the first refusal by number,
 // with its line.
-#[derive(Drop)]
+#[derive(Clone, Copy)]
 pub enum FirstHit {
     Rule(usize, bool),
     NoRule,
@@ -125,13 +125,13 @@ pub enum FirstHit {
 }
 
 // When credentials expire: never, or at these seconds and nanoseconds.
-#[derive(Drop)]
+#[derive(Clone, Copy)]
 pub enum Expiry {
     Never,
     At(u64, u64),
 }
 
-#[derive(Drop)]
+#[derive(Clone, Copy)]
 pub enum ExpiryAnswer {
     Expired(bool),
     Refused(Refusal),

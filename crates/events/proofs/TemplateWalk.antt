@@ -12,7 +12,7 @@ use lib.Dec.{leb, ltb}
 use lib.ListN.{length, take, drop}
 use Rattle.text.proofs.Laws.{or_split, written-take}
 use Rattle.json_text.specs.Strings.{string_at}
-use Rattle.json_text.specs.Json.{Elements, no_element, element, depth_limit, line_value, longest, longestElement}
+use Rattle.json_text.specs.Json.{Elements, no_element, element, depth_limit, line_value, longest, longest_element}
 use Rattle.json_text.specs.Lines.{line_at, next_line}
 use Rattle.json_text.specs.declared.Place.{Place}
 use Rattle.json_text.specs.declared.Place.TheVariants.{At, Nowhere}
@@ -147,9 +147,9 @@ module _ (n : ℕ) (id : List ℕ) (name : Option (List ℕ)) (line : List ℕ) 
   walk_step false t rest = refl
 
   -- the templates by their places are those of the tree, with any fuel that reaches the end
-  pub walk : (most low high : ℕ) (es : Elements) (ts : List spec.Topic) → ElementsIn line low high es → high - low ≤ most → longestElement es ≤ text_limit
+  pub walk : (most low high : ℕ) (es : Elements) (ts : List spec.Topic) → ElementsIn line low high es → high - low ≤ most → longest_element es ≤ text_limit
       → topics_in es ≡ some ts → filled_from most n id name line (element_place es) ≡ filled_topics n id name (map topic_means ts)
-  unfolding filled_from element_place topics_in longestElement filled_topics next_topic
+  unfolding filled_from element_place topics_in longest_element filled_topics next_topic
   walk zero low high no_element ts h k l e = let all : [] ≡ ts = cc in ap (λ (us : List spec.Topic). filled_topics n id name (map topic_means us)) all
   walk (suc most) low high no_element ts h k l e = let all : [] ≡ ts = cc in ap (λ (us : List spec.Topic). filled_topics n id name (map topic_means us)) all
   walk zero low high (element at value rest) ts h k l e = absurd (omega (arith, value_next depth_limit line at h.2.reads, h.1, h.2.before))
@@ -182,7 +182,7 @@ module _ (n : ℕ) (id : List ℕ) (name : Option (List ℕ)) (line : List ℕ) 
       let ts = mapped (topics_in es.0) _ es.2 in
       let is = array-value v es.1 in
       let a = array_is line v.at h.0.1 is in
-      let long : longestElement es.0 ≤ text_limit = rw is at h.0.2 in
+      let long : longest_element es.0 ≤ text_limit = rw is at h.0.2 in
       let all = walk most (v.at + 1) h.0.0 es.0 ts.0 a.elements (omega (arith, value_next depth_limit line v.at h.0.1)) long ts.1 in
       ap (filled_from most n id name line) a.first
       ∙ (all

@@ -9,14 +9,14 @@ pub mod templates;
 use rule::Refusal;
 
 // What an event answers: done, or refused by number with the store unchanged.
-#[derive(Drop)]
+#[derive(Clone, Copy)]
 pub enum EventAnswer {
     Done,
     Refused(Refusal),
 }
 
 // A topic of a rule, filled for a client: no template; a text over 256; a filter or an eq with the length of its text.
-#[derive(Drop)]
+#[derive(Clone, Copy)]
 pub enum FilledTopic {
     Static,
     TooLong,
@@ -33,7 +33,7 @@ pub enum Table {
 }
 
 // What pushing all rows of an event answers: the rows used then, or that one found no room.
-#[derive(Drop)]
+#[derive(Clone, Copy)]
 pub enum PushedAll {
     Used(usize),
     Full,

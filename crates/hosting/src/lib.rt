@@ -16,14 +16,14 @@ use rule::topic_list::topic_at;
 use store::{ShapeRead, check};
 
 // How many filter and eq templates there are.
-#[derive(Drop)]
+#[derive(Clone, Copy)]
 pub struct Templates {
     pub filters: usize,
     pub eqs: usize,
 }
 
 // The used filter, eq and note rows of a store.
-#[derive(Drop)]
+#[derive(Clone, Copy)]
 pub enum Used {
     Rows(usize, usize, usize),
     Malformed,

@@ -66,10 +66,10 @@ pub kind_is_lem : (depth : ℕ) (line : List ℕ) (at : ℕ) {r : Read Json} →
 unfolding kind_at
 kind_is_lem depth line at e = sym (subst (OfKind (kind_of (byte_at line at))) e (value_kind depth line at))
 
-opens_is : (inObject : Bool) (depth : ℕ) (line : List ℕ) (at : ℕ) {r : Read Json} → value_at depth line at ≡ some r → kind_is r.value ≡ bracket_kind inObject
-    → is_at line at (opening inObject) ≡ true
+opens_is : (within_object : Bool) (depth : ℕ) (line : List ℕ) (at : ℕ) {r : Read Json} → value_at depth line at ≡ some r → kind_is r.value ≡ bracket_kind within_object
+    → is_at line at (opening within_object) ≡ true
 unfolding kind_at
-opens_is inObject depth line at e q = kind_opens inObject line at (kind_is_lem depth line at e ∙ q)
+opens_is within_object depth line at e q = kind_opens within_object line at (kind_is_lem depth line at e ∙ q)
 
 -- the place of the first of these elements, of these members
 unfoldable pub element_place : Elements → Place
@@ -78,7 +78,7 @@ element_place (element at value rest) = At at
 
 unfoldable pub member_place : Members → Place
 member_place no_member = Nowhere
-member_place (member at name value_at_lem value rest) = At at
+member_place (member at name value_start value rest) = At at
 
 -- an element of this value stands from `at` to `next`, no further than `high`, and the one behind it at `rest`
 pub record ElementIs (line : List ℕ) (high at next : ℕ) (value : Json) (rest : Place) : Type 0 where
@@ -162,24 +162,24 @@ array_is line at {r} {es} e q =
         (λ x h. record { first = first_by_lem 0x5b 0x5d line at opens c ∙ sym h.1; elements = lower_elements line first (at + 1) x.next x.value (blanks_from line (at + 1)) h.2 })
         (elements_from 7 line first) (elements_in line (length line - first) first))
 
--- a member of this name stands at `at`, its value from `value_at_lem` to `next`, no further than `high`, and the one behind it at `rest`
-pub record MemberIs (line : List ℕ) (high at : ℕ) (name : List ℕ) (value_at_lem next : ℕ) (value : Json) (rest : Place) : Type 0 where
+-- a member of this name stands at `at`, its value from `value_start` to `next`, no further than `high`, and the one behind it at `rest`
+pub record MemberIs (line : List ℕ) (high at : ℕ) (name : List ℕ) (value_start next : ℕ) (value : Json) (rest : Place) : Type 0 where
   pub string : (d : Decoded) × (string_at line at ≡ some d) × (d.text ≡ name)
-  pub valued : member_value line at ≡ At value_at_lem
-  pub between : at < value_at_lem
-  pub reads : value_here line value_at_lem ≡ some (record { value = value; next = next })
+  pub valued : member_value line at ≡ At value_start
+  pub between : at < value_start
+  pub reads : value_here line value_start ≡ some (record { value = value; next = next })
   pub before : next ≤ high
-  pub onward : next_item line value_at_lem ≡ rest
+  pub onward : next_item line value_start ≡ rest
 
 -- all of these members stand so, the first not before `low`
 abbrev pub MembersIn : List ℕ → ℕ → ℕ → Members → Type 0
 MembersIn line low high no_member = Unit {0}
-MembersIn line low high (member at name value_at_lem value rest) =
-    (next : ℕ) × (low ≤ at) × MemberIs line high at name value_at_lem next value (member_place rest) × MembersIn line next high rest
+MembersIn line low high (member at name value_start value rest) =
+    (next : ℕ) × (low ≤ at) × MemberIs line high at name value_start next value (member_place rest) × MembersIn line next high rest
 
 lower_members : (line : List ℕ) (low lower high : ℕ) (ms : Members) → lower ≤ low → MembersIn line low high ms → MembersIn line lower high ms
 lower_members line low lower high no_member h k = tt
-lower_members line low lower high (member at name value_at_lem value rest) h k = (k.0, le_trans h k.1, k.2, k.3)
+lower_members line low lower high (member at name value_start value rest) h k = (k.0, le_trans h k.1, k.2, k.3)
 
 module _ (line : List ℕ) where
   abbrev ReadMember : ℕ → Read (ℕ × List ℕ × ℕ × Json) → Type 0
@@ -429,7 +429,7 @@ string_here depth line at {r} {t} e q = by (string_at line at) (text_is some non
 -- the value of the last member with the name
 unfoldable pub last_value : List ℕ → Members → Option Json → Option Json
 last_value name no_member found = found
-last_value name (member at n value_at_lem value rest) found = last_value name rest (cond (same n name) (some value) found)
+last_value name (member at n value_start value rest) found = last_value name rest (cond (same n name) (some value) found)
 
 -- this value stands at this place, or none at none
 abbrev pub FoundIs : List ℕ → Place → Option Json → Type 0
@@ -442,10 +442,10 @@ last_found : (name line : List ℕ) (low high : ℕ) (ms : Members) (place : Pla
     → FoundIs line (last_named name ms place) (last_value name ms found)
 unfolding last_named last_value
 last_found name line low high no_member place found h k = k
-last_found name line low high (member at n value_at_lem value rest) place found h k =
-    last_found name line h.0 high rest (cond (same n name) (At value_at_lem) place) (cond (same n name) (some value) found) h.3 (by (same n name))
+last_found name line low high (member at n value_start value rest) place found h k =
+    last_found name line h.0 high rest (cond (same n name) (At value_start) place) (cond (same n name) (some value) found) h.3 (by (same n name))
   where
-    by : (b : Bool) → FoundIs line (cond b (At value_at_lem) place) (cond b (some value) found)
+    by : (b : Bool) → FoundIs line (cond b (At value_start) place) (cond b (some value) found)
     by true = (h.0, h.2.reads)
     by false = k
 

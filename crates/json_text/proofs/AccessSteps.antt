@@ -224,10 +224,10 @@ value_kind depth line at = subst (OfKind (kind_of (byte_at line at))) (sym (valu
 
 -- the opening bracket of an object, or of an array
 abbrev pub opening : Bool → ℕ
-opening inObject = cond inObject 0x7b 0x5b
+opening within_object = cond within_object 0x7b 0x5b
 
 abbrev pub bracket_kind : Bool → Kind
-bracket_kind inObject = cond inObject Object Array
+bracket_kind within_object = cond within_object Object Array
 
 -- of the kinds, the two of brackets say which byte it is
 abbrev says : Kind → Bool → Bool → Bool
@@ -257,14 +257,14 @@ kind_says b = by (between 0x30 0x39 b) (eqb b quote) (eqb b 0x5b) (eqb b 0x7b) (
     by false false false false false true = refl
     by false false false false false false = refl
 
-pub kind_opens : (inObject : Bool) (line : List ℕ) (at : ℕ) → kind_of (byte_at line at) ≡ bracket_kind inObject → is_at line at (opening inObject) ≡ true
+pub kind_opens : (within_object : Bool) (line : List ℕ) (at : ℕ) → kind_of (byte_at line at) ≡ bracket_kind within_object → is_at line at (opening within_object) ≡ true
 unfolding is_at
 kind_opens true line at e = ap (λ (k : Kind). says k (eqb (byte_at line at) 0x5b) (eqb (byte_at line at) 0x7b)) (sym e) ∙ kind_says (byte_at line at)
 kind_opens false line at e = ap (λ (k : Kind). says k (eqb (byte_at line at) 0x5b) (eqb (byte_at line at) 0x7b)) (sym e) ∙ kind_says (byte_at line at)
 
 -- where a bracket opens, what is read is what stands behind it
-pub opens_here : (inObject : Bool) (depth : ℕ) (line : List ℕ) (at : ℕ) → is_at line at (opening inObject) ≡ true
-    → value_at (suc depth) line at ≡ bracketed inObject (value_at depth line) line at
+pub opens_here : (within_object : Bool) (depth : ℕ) (line : List ℕ) (at : ℕ) → is_at line at (opening within_object) ≡ true
+    → value_at (suc depth) line at ≡ bracketed within_object (value_at depth line) line at
 unfolding is_at kind_of between value_as inner bind
 opens_here true depth line at e = value_by (suc depth) line at (ap kind_of (eqb-true (byte_at line at) 0x7b e))
 opens_here false depth line at e = value_by (suc depth) line at (ap kind_of (eqb-true (byte_at line at) 0x5b e))

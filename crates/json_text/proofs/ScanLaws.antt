@@ -139,9 +139,9 @@ number_next line at {r} e = by (plain_number (digits_at line at)) refl e
 
 -- the word, by its tests
 abbrev pub words : ℕ → Bool → Bool → Bool → Option (Read Json)
-words at is_null isTrue isFalse =
+words at is_null is_true is_false =
     cond is_null (some (record { value = null; next = at + 4 }))
-    (cond isTrue (some (record { value = bool true; next = at + 4 })) (cond isFalse (some (record { value = bool false; next = at + 5 })) none))
+    (cond is_true (some (record { value = bool true; next = at + 4 })) (cond is_false (some (record { value = bool false; next = at + 5 })) none))
 
 pub word_by : (line : List ℕ) (at : ℕ) {n t f : Bool} →
     begins (ascii "null") (drop at line) ≡ n → begins (ascii "true") (drop at line) ≡ t → begins (ascii "false") (drop at line) ≡ f → word_at line at ≡ words at n t f

@@ -8,7 +8,7 @@ use mathlib.Core.List.{List}
 use mathlib.Core.Option.{Option, none, some, bind}
 use lib.ListN.{length}
 use Rattle.json_text.specs.Utf8.{byte_at}
-use Rattle.json_text.specs.Json.{Json, number, text, array, object, Elements, no_element, element, Members, no_member, member, Read, is_at, skip_blanks, kind_of, number_at, word_at, text_at, read_as, separator_at, items_at, bracket_at, element_at, name_at, member_at, array_at, object_at, value_with, value_at, longest, longestElement, longestMember}
+use Rattle.json_text.specs.Json.{Json, number, text, array, object, Elements, no_element, element, Members, no_member, member, Read, is_at, skip_blanks, kind_of, number_at, word_at, text_at, read_as, separator_at, items_at, bracket_at, element_at, name_at, member_at, array_at, object_at, value_with, value_at, longest, longest_element, longest_member}
 use Rattle.json_text.specs.Access.{stepped, no_string, closing, bracketed, itemized, item_step}
 use Rattle.json_text.specs.declared.Kind.{Kind}
 use Rattle.json_text.specs.declared.Kind.TheVariants.{Number, Text, Array, Object, Word, Blank, Other}
@@ -256,7 +256,7 @@ module _ (line : List ℕ) (read : ℕ → Option (Read Json)) (read-ahead : (at
           ahead_from line at name.next (read_as (λ v. (at, name.value, name.next, v)) (read name.next)) (omega (arith, name_next line at e))
           (ahead_named line name.next (λ v. (at, name.value, name.next, v)) (read name.next) (read-ahead name.next))
 
-  bracketed-ahead : (inObject : Bool) (at : ℕ) → Ahead line at (bracketed inObject read line at)
+  bracketed-ahead : (within_object : Bool) (at : ℕ) → Ahead line at (bracketed within_object read line at)
   unfolding bracketed array_at object_at
   bracketed-ahead true at = ahead_named line at object _ (bracket_ahead no_member with_member (member_at read line) 0x7d line member_ahead (omega arith) at)
   bracketed-ahead false at = ahead_named line at array _ (bracket_ahead no_element with_element (element_at read) 0x5d line element_ahead (omega arith) at)
@@ -338,8 +338,8 @@ value_past depth line at h = past line at (value_at depth line at) (value_ahead 
 
 -- the cursor behind a bracket, if one may open
 unfoldable pub step_opened : Bool → Option (ℕ → Option (Read Json)) → List ℕ → ℕ → ℕ → Step
-step_opened inObject none line before at = Bad
-step_opened inObject (some read) line before at = stepped longest before (bracketed inObject read line at)
+step_opened within_object none line before at = Bad
+step_opened within_object (some read) line before at = stepped longest before (bracketed within_object read line at)
 
 -- the cursor behind a value, by its kind
 unfoldable pub step_as : Option (ℕ → Option (Read Json)) → List ℕ → ℕ → ℕ → Kind → Step
@@ -391,7 +391,7 @@ no_item true = object no_member
 no_item false = array no_element
 
 -- a closing bracket stands within the line
-pub closing_within : (inObject : Bool) (line : List ℕ) (at : ℕ) {b : ℕ} → b ≡ closing inObject → is_at line at b ≡ true → at < length line
+pub closing_within : (within_object : Bool) (line : List ℕ) (at : ℕ) {b : ℕ} → b ≡ closing within_object → is_at line at b ≡ true → at < length line
 closing_within true line at {b} q e = at_within line at b (omega arith) e
 closing_within false line at {b} q e = at_within line at b (omega arith) e
 
@@ -407,7 +407,7 @@ module _ (depth : ℕ) (line : List ℕ) where
   members_from = items_from no_member with_member (member_at read line) 0x7d line
 
   abbrev pub itemized_from : Bool → ℕ → Option (Read Json)
-  itemized_from inObject at = itemized inObject read line (length line - at) at
+  itemized_from within_object at = itemized within_object read line (length line - at) at
 
   pub elements_step : (at : ℕ) → at < length line → elements_from at ≡ behind_item no_element with_element 0x5d line elements_from (element_at read at)
   elements_step = items_step no_element with_element (element_at read) 0x5d line (element_ahead line read (value_ahead depth line)) (omega arith)
@@ -422,29 +422,29 @@ module _ (depth : ℕ) (line : List ℕ) where
   members_past at h = past line at (members_from at) (items_ahead no_member with_member (member_at read line) 0x7d line (member_ahead line read (value_ahead depth line)) (omega arith) _ at) h
 
   -- an array or an object has as many items as stand in what is left of the line
-  pub itemized_all : (inObject : Bool) (at : ℕ) → itemized inObject read line (length line) at ≡ itemized_from inObject at
+  pub itemized_all : (within_object : Bool) (at : ℕ) → itemized within_object read line (length line) at ≡ itemized_from within_object at
   unfolding itemized
   itemized_all true at = ap (read_as object) (items_all no_member with_member (member_at read line) 0x7d line (member_ahead line read (value_ahead depth line)) (omega arith) at)
   itemized_all false at = ap (read_as array) (items_all no_element with_element (element_at read) 0x5d line (element_ahead line read (value_ahead depth line)) (omega arith) at)
 
-  itemized_ahead : (inObject : Bool) (at : ℕ) → Ahead line at (itemized_from inObject at)
+  itemized_ahead : (within_object : Bool) (at : ℕ) → Ahead line at (itemized_from within_object at)
   unfolding itemized
   itemized_ahead true at =
       ahead_named line at object _ (items_ahead no_member with_member (member_at read line) 0x7d line (member_ahead line read (value_ahead depth line)) (omega arith) _ at)
   itemized_ahead false at =
       ahead_named line at array _ (items_ahead no_element with_element (element_at read) 0x5d line (element_ahead line read (value_ahead depth line)) (omega arith) _ at)
 
-  pub itemized_past : (inObject : Bool) (before at : ℕ) → length line ≤ at → stepped longest before (itemized_from inObject at) ≡ Bad
+  pub itemized_past : (within_object : Bool) (before at : ℕ) → length line ≤ at → stepped longest before (itemized_from within_object at) ≡ Bad
   unfolding stepped
-  itemized_past inObject before at h = rw (past line at (itemized_from inObject at) (itemized_ahead inObject at) h)
+  itemized_past within_object before at h = rw (past line at (itemized_from within_object at) (itemized_ahead within_object at) h)
 
   -- the cursor goes on from the place behind a comma
   abbrev pub step_from : Bool → ℕ → ℕ → Step
-  step_from inObject before at = stepped longest before (itemized_from inObject at)
+  step_from within_object before at = stepped longest before (itemized_from within_object at)
 
-  pub itemized_step : (inObject : Bool) (before at : ℕ) {step : Step} → at < length line → item_step inObject before read line at ≡ step
-      → stepped longest before (itemized_from inObject at) ≡ step_on (step_from inObject) (closing inObject) line step
-  unfolding itemized item_step longest longestElement longestMember
+  pub itemized_step : (within_object : Bool) (before at : ℕ) {step : Step} → at < length line → item_step within_object before read line at ≡ step
+      → stepped longest before (itemized_from within_object at) ≡ step_on (step_from within_object) (closing within_object) line step
+  unfolding itemized item_step longest longest_element longest_member
   itemized_step true before at h e =
       ap (λ o. stepped longest before (read_as object o)) (members_step at h)
       ∙ (step_on_lem no_member with_member (member_at read line) 0x7d line object (λ m. max (length m.1) (longest m.3)) (λ m rest. omega arith) refl before (member_at read line at)
@@ -455,7 +455,7 @@ module _ (depth : ℕ) (line : List ℕ) where
       ∙ ap (step_on _ 0x5d line) e)
 
   -- and it has gone on
-  pub item_next : (inObject : Bool) (before at : ℕ) {c : Cursor} → item_step inObject before read line at ≡ Next c → (at < c.at) × (c.at ≤ length line)
+  pub item_next : (within_object : Bool) (before at : ℕ) {c : Cursor} → item_step within_object before read line at ≡ Next c → (at < c.at) × (c.at ≤ length line)
   unfolding item_step
   item_next true before at e = step_ahead line at _ before (member_at read line at) (member_ahead line read (value_ahead depth line) at) e
   item_next false before at e = step_ahead line at _ before (element_at read at) (element_ahead line read (value_ahead depth line) at) e
@@ -471,28 +471,28 @@ module _ (depth : ℕ) (line : List ℕ) where
   unfolding object_at
   object_by at e = bracket_by no_member with_member (member_at read line) 0x7d line (member_ahead line read (value_ahead depth line)) (omega arith) at e
 
-  bracketed_by : (inObject : Bool) (at : ℕ) {empty : Bool} → is_at line (skip_blanks line (at + 1)) (closing inObject) ≡ empty
-      → bracketed inObject read line at
-      ≡ cond empty (some (record { value = no_item inObject; next = skip_blanks line (at + 1) + 1 })) (itemized_from inObject (skip_blanks line (at + 1)))
+  bracketed_by : (within_object : Bool) (at : ℕ) {empty : Bool} → is_at line (skip_blanks line (at + 1)) (closing within_object) ≡ empty
+      → bracketed within_object read line at
+      ≡ cond empty (some (record { value = no_item within_object; next = skip_blanks line (at + 1) + 1 })) (itemized_from within_object (skip_blanks line (at + 1)))
   unfolding bracketed itemized read_as
   bracketed_by true at {empty} e = ap (read_as object) (object_by at e) ∙ named_cond object empty _ _
   bracketed_by false at {empty} e = ap (read_as array) (array_by at e) ∙ named_cond array empty _ _
 
-  pub bracket_step : (inObject : Bool) (before at : ℕ) {empty : Bool} → is_at line (skip_blanks line (at + 1)) (closing inObject) ≡ empty
-      → stepped longest before (bracketed inObject read line at)
-      ≡ cond empty (Next (record { at = skip_blanks line (at + 1) + 1; longest = before })) (stepped longest before (itemized_from inObject (skip_blanks line (at + 1))))
-  bracket_step inObject before at {empty} e = rw (bracketed_by inObject at e) (by inObject empty)
+  pub bracket_step : (within_object : Bool) (before at : ℕ) {empty : Bool} → is_at line (skip_blanks line (at + 1)) (closing within_object) ≡ empty
+      → stepped longest before (bracketed within_object read line at)
+      ≡ cond empty (Next (record { at = skip_blanks line (at + 1) + 1; longest = before })) (stepped longest before (itemized_from within_object (skip_blanks line (at + 1))))
+  bracket_step within_object before at {empty} e = rw (bracketed_by within_object at e) (by within_object empty)
     where
       by : (i b : Bool) →
-          stepped longest before (cond b (some (record { value = no_item i; next = skip_blanks line (at + 1) + 1 })) (itemized_from inObject (skip_blanks line (at + 1))))
-          ≡ cond b (Next (record { at = skip_blanks line (at + 1) + 1; longest = before })) (stepped longest before (itemized_from inObject (skip_blanks line (at + 1))))
-      by true true = unfold stepped longest longestMember in ap (λ (n : ℕ). Next (record { at = skip_blanks line (at + 1) + 1; longest = n })) (omega arith)
-      by false true = unfold stepped longest longestElement in ap (λ (n : ℕ). Next (record { at = skip_blanks line (at + 1) + 1; longest = n })) (omega arith)
+          stepped longest before (cond b (some (record { value = no_item i; next = skip_blanks line (at + 1) + 1 })) (itemized_from within_object (skip_blanks line (at + 1))))
+          ≡ cond b (Next (record { at = skip_blanks line (at + 1) + 1; longest = before })) (stepped longest before (itemized_from within_object (skip_blanks line (at + 1))))
+      by true true = unfold stepped longest longest_member in ap (λ (n : ℕ). Next (record { at = skip_blanks line (at + 1) + 1; longest = n })) (omega arith)
+      by false true = unfold stepped longest longest_element in ap (λ (n : ℕ). Next (record { at = skip_blanks line (at + 1) + 1; longest = n })) (omega arith)
       by i false = refl
 
-  pub bracket_past : (inObject : Bool) (before at : ℕ) → length line ≤ at → stepped longest before (bracketed inObject read line at) ≡ Bad
+  pub bracket_past : (within_object : Bool) (before at : ℕ) → length line ≤ at → stepped longest before (bracketed within_object read line at) ≡ Bad
   unfolding stepped
-  bracket_past inObject before at h = rw (past line at (bracketed inObject read line at) (bracketed-ahead line read (value_ahead depth line) inObject at) h)
+  bracket_past within_object before at h = rw (past line at (bracketed within_object read line at) (bracketed-ahead line read (value_ahead depth line) within_object at) h)
 
 -- an item, by the cursor behind a member's name
 unfoldable pub value_on : (ℕ → Option (Read Json)) → Step → Step
@@ -594,7 +594,7 @@ module _ (line : List ℕ) (read wider : ℕ → Option (Read Json)) (read_Keeps
       keeps-bind (name_at line at) (name_at line at) _ _ (keeps_itself (name_at line at))
       (λ name. keeps_named (λ v. (at, name.value, name.next, v)) (read name.next) (wider name.next) (read_Keeps name.next))
 
-  bracketed-keeps : (inObject : Bool) (at : ℕ) → Keeps (bracketed inObject read line at) (bracketed inObject wider line at)
+  bracketed-keeps : (within_object : Bool) (at : ℕ) → Keeps (bracketed within_object read line at) (bracketed within_object wider line at)
   unfolding bracketed array_at object_at
   bracketed-keeps true at = keeps_named object _ _ (bracket_keeps no_member with_member 0x7d line (member_at read line) (member_at wider line) member_keeps at)
   bracketed-keeps false at = keeps_named array _ _ (bracket_keeps no_element with_element 0x5d line (element_at read) (element_at wider) element_keeps at)

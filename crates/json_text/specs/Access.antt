@@ -93,7 +93,7 @@ element_count line at = elim (value_here line at) [ none ↦ Absent | some r ↦
 -- "Of equal member names the last counts": the place of its value
 unfoldable pub last_named : List ℕ → Members → Place → Place
 last_named name no_member found = found
-last_named name (member at n value_at_lem value rest) found = last_named name rest (cond (same n name) (At value_at_lem) found)
+last_named name (member at n value_start value rest) found = last_named name rest (cond (same n name) (At value_start) found)
 
 unfoldable pub named_in : List ℕ → Json → Place
 named_in name null = Nowhere
@@ -158,7 +158,7 @@ no_string n = 0
 
 -- the closing bracket of an object, or of an array
 abbrev pub closing : Bool → ℕ
-closing inObject = cond inObject 0x7d 0x5d
+closing within_object = cond within_object 0x7d 0x5d
 
 -- the object, or the array, whose bracket opens at a place
 unfoldable pub bracketed : Bool → (ℕ → Option (Read Json)) → List ℕ → ℕ → Option (Read Json)

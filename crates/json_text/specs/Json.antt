@@ -177,13 +177,13 @@ unfoldable mutual
   longest (bool b) = 0
   longest (number n) = 0
   longest (text t) = length t
-  longest (array es) = longestElement es
-  longest (object ms) = longestMember ms
+  longest (array es) = longest_element es
+  longest (object ms) = longest_member ms
 
-  pub longestElement : Elements → ℕ
-  longestElement no_element = 0
-  longestElement (element at value rest) = max (longest value) (longestElement rest)
+  pub longest_element : Elements → ℕ
+  longest_element no_element = 0
+  longest_element (element at value rest) = max (longest value) (longest_element rest)
 
-  pub longestMember : Members → ℕ
-  longestMember no_member = 0
-  longestMember (member at name value_at_lem value rest) = max (length name) (max (longest value) (longestMember rest))
+  pub longest_member : Members → ℕ
+  longest_member no_member = 0
+  longest_member (member at name value_start value rest) = max (length name) (max (longest value) (longest_member rest))

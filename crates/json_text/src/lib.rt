@@ -9,7 +9,7 @@ pub mod utf8;
 pub mod values;
 
 // What one byte says of the value that it begins.
-#[derive(Drop)]
+#[derive(Clone, Copy)]
 pub enum Kind {
     Number,
     Text,
@@ -22,7 +22,7 @@ pub enum Kind {
 
 // What a string has at a place: its closing quote; a character as it stands, of so many bytes; an escaped character, a code point
 // written in so many bytes; or what may not stand there.
-#[derive(Drop)]
+#[derive(Clone, Copy)]
 pub enum Piece {
     Closes,
     Raw(usize),
@@ -31,20 +31,20 @@ pub enum Piece {
 }
 
 // A string: the place behind it and the length of its decoded text.
-#[derive(Drop)]
+#[derive(Clone, Copy)]
 pub enum Scanned {
     Text(usize, usize),
     Bad,
 }
 
 // A number: its value and the place behind it.
-#[derive(Drop)]
+#[derive(Clone, Copy)]
 pub enum Digits {
     Value(u64, usize),
     Bad,
 }
 
-#[derive(Drop)]
+#[derive(Clone, Copy)]
 pub enum Literal {
     Null,
     True,
@@ -53,20 +53,20 @@ pub enum Literal {
 }
 
 // The reader's state: the next place, and the length of the longest decoded string so far.
-#[derive(Drop)]
+#[derive(Clone, Copy)]
 pub struct Cursor {
     pub at: usize,
     pub longest: usize,
 }
 
-#[derive(Drop)]
+#[derive(Clone, Copy)]
 pub enum Step {
     Next(Cursor),
     Bad,
 }
 
 // What comes behind an item: the closing bracket and the place behind it, a comma and the place of the next item, or neither.
-#[derive(Drop)]
+#[derive(Clone, Copy)]
 pub enum Separator {
     Close(usize),
     Comma(usize),
@@ -74,7 +74,7 @@ pub enum Separator {
 }
 
 // A whole line: no document of document 01, or one whose longest decoded string, member names included, is this long.
-#[derive(Drop)]
+#[derive(Clone, Copy)]
 pub enum Checked {
     Invalid,
     Valid(usize),
@@ -92,14 +92,14 @@ pub enum Found {
     Absent,
 }
 
-#[derive(Drop)]
+#[derive(Clone, Copy)]
 pub enum Truth {
     Holds(bool),
     Unknown,
 }
 
 // What `decode` answers: the text's length, that it is longer than the buffer, or that no string stands there.
-#[derive(Drop)]
+#[derive(Clone, Copy)]
 pub enum Copied {
     Length(usize),
     TooLong,

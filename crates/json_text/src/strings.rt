@@ -231,7 +231,7 @@ pub fn scan_string(line: &[u8], at: usize) -> Scanned
 }
 
 // The bytes of a code point in UTF-8, and how many they are.
-#[derive(Drop)]
+#[derive(Clone, Copy)]
 pub struct Encoded {
     pub bytes: [u8; 4],
     pub size: usize,

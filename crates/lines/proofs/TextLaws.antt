@@ -6,7 +6,7 @@ use mathlib.Core.List.{List, [], ◌∷◌, ◌++◌}
 use mathlib.Core.Option.{Option, none, some, none-ne-some}
 use lib.ListN.{length, take, drop, length-append, length-take, length-drop}
 use Rattle.json_text.specs.Utf8.{utf8}
-use Rattle.json_text.specs.Strings.{Decoded, grown, string_at, piece_of, string_from as bytesFrom}
+use Rattle.json_text.specs.Strings.{Decoded, grown, string_at, piece_of, string_from as bytes_from}
 use Rattle.json_text.specs.declared.Piece.{Piece}
 use Rattle.json_text.specs.declared.Piece.TheVariants.{Closes, Raw, Escaped, Bad}
 use Rattle.json_text.proofs.ScanLaws.{string_within}
@@ -17,31 +17,31 @@ unfolding grown
 grown-text t none q = absurd (none-ne-some _ q)
 grown-text t (some e) q = (e, refl, cc)
 
-text_from : (k : ℕ) (s : List ℕ) {d : Decoded} → bytesFrom k s ≡ some d → length d.text + k ≤ length s
-unfolding bytesFrom
+text_from : (k : ℕ) (s : List ℕ) {d : Decoded} → bytes_from k s ≡ some d → length d.text + k ≤ length s
+unfolding bytes_from
 text_from k [] q = absurd (none-ne-some _ q)
 text_from (suc k) (b ∷ s) q =
-    let g = grown-text [] (bytesFrom k s) q in
+    let g = grown-text [] (bytes_from k s) q in
     let h = text_from k s g.1 in
     omega (arith, ap length g.2)
-text_from zero (b ∷ s) {d} q = by (piece_of (b ∷ s)) refl q (λ (k : ℕ) (e : Decoded) (r : bytesFrom k s ≡ some e). text_from k s r)
+text_from zero (b ∷ s) {d} q = by (piece_of (b ∷ s)) refl q (λ (k : ℕ) (e : Decoded) (r : bytes_from k s ≡ some e). text_from k s r)
   where
     by : (p : Piece) → piece_of (b ∷ s) ≡ p
         → elim p [
           | Closes ↦ some (record { text = []; size = 1 })
-          | Raw n ↦ grown (take n (b ∷ s)) (bytesFrom (n - 1) s)
-          | Escaped c n ↦ grown (utf8 c) (bytesFrom (n - 1) s)
+          | Raw n ↦ grown (take n (b ∷ s)) (bytes_from (n - 1) s)
+          | Escaped c n ↦ grown (utf8 c) (bytes_from (n - 1) s)
           | Bad ↦ none
         ] ≡ some d
-        → ((k : ℕ) (e : Decoded) → bytesFrom k s ≡ some e → length e.text + k ≤ length s)
+        → ((k : ℕ) (e : Decoded) → bytes_from k s ≡ some e → length e.text + k ≤ length s)
         → length d.text + 0 ≤ suc (length s)
     by Closes p q f = let none_left : [] ≡ d.text = cc in omega (arith, ap length none_left)
     by (Raw n) p q f =
-        let g = grown-text (take n (b ∷ s)) (bytesFrom (n - 1) s) q in
+        let g = grown-text (take n (b ∷ s)) (bytes_from (n - 1) s) q in
         let h = f (n - 1) g.0 g.1 in
         omega (arith, ap length g.2, length-append (take n (b ∷ s)) g.0.text, length-take n (b ∷ s))
     by (Escaped c n) p q f =
-        let g = grown-text (utf8 c) (bytesFrom (n - 1) s) q in
+        let g = grown-text (utf8 c) (bytes_from (n - 1) s) q in
         let h = f (n - 1) g.0 g.1 in
         omega (arith, ap length g.2, length-append (utf8 c) g.0.text, escaped_shrinks (b ∷ s) c n p, escaped_size (b ∷ s) c n p)
     by Bad p q f = absurd (none-ne-some _ q)

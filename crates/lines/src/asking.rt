@@ -192,7 +192,7 @@ fn topic_said(
     addresses: &[u8],
     topic: &[u8],
 ) -> Said
-    ensures { (let c : Client = record { id = id.entry.now; name = given a.name names.now; password = given a.password passwords.now; address = given a.address addresses.now; protocol = protocol_of a.protocol } in result ≡ said.reply_said (decision.ask (cond publishing (question.publish a.earlier c topic.now true) (question.subscribe a.earlier c topic.now 0)) store.now)) }
+    ensures { (let c : Client = record { id = id.now; name = given a.name names.now; password = given a.password passwords.now; address = given a.address addresses.now; protocol = protocol_of a.protocol } in result ≡ said.reply_said (decision.ask (cond publishing (question.publish a.earlier c topic.now true) (question.subscribe a.earlier c topic.now 0)) store.now)) }
 {
     let name = a.name;
     let password = a.password;

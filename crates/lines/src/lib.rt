@@ -35,14 +35,14 @@ pub struct Said {
 }
 
 // The place behind a text that was put into a buffer, or that there was no room for it.
-#[derive(Drop)]
+#[derive(Clone, Copy)]
 pub enum Put {
     End(usize),
     NoRoom,
 }
 
 // The form of a line, by its word.
-#[derive(Drop)]
+#[derive(Clone, Copy)]
 pub enum Form {
     Connect,
     Subscribe,
@@ -53,20 +53,20 @@ pub enum Form {
     Unknown,
 }
 
-#[derive(Drop)]
+#[derive(Clone, Copy)]
 pub enum GivenRead {
     Is(Given),
     Bad,
 }
 
-#[derive(Drop)]
+#[derive(Clone, Copy)]
 pub enum ProtocolRead {
     Is(Protocol),
     Bad,
 }
 
 // Who asks: the earlier answer's code, and the lengths of his texts in their buffers.
-#[derive(Drop)]
+#[derive(Clone, Copy)]
 pub struct Asker {
     pub earlier: u64,
     pub id: usize,
@@ -76,14 +76,14 @@ pub struct Asker {
     pub protocol: Protocol,
 }
 
-#[derive(Drop)]
+#[derive(Clone, Copy)]
 pub enum AskerRead {
     Asker(Asker),
     Bad,
 }
 
 // The client of a first line: the superuser flag, and the lengths of the texts in their buffers.
-#[derive(Drop)]
+#[derive(Clone, Copy)]
 pub enum HeaderRead {
     Client(bool, usize, Given),
     Bad,
@@ -97,7 +97,7 @@ pub struct Begun {
 }
 
 // One byte later: the line goes on, or it is whole, with its length, or whole and too long.
-#[derive(Drop)]
+#[derive(Clone, Copy)]
 pub enum Taken {
     Part(Begun),
     Line(usize),
@@ -112,7 +112,7 @@ pub struct Rules {
 }
 
 // One byte later: the rules go on, or an empty line ends them, or they are longer than the buffer.
-#[derive(Drop)]
+#[derive(Clone, Copy)]
 pub enum RulesTaken {
     Part(Rules),
     Whole(usize),

@@ -104,15 +104,15 @@ by_rule_small q (some f) e h = by f.1.allow
 
 -- ---- the rule that decides is one of the text's
 
-module _ (someFilter : (FilterRow → Bool) → Bool) (someEq : (EqRow → Bool) → Bool) (c : Client) (w : Wish) where
-  pub first_below : (n : ℕ) (rules : List (Option Meaning)) (f : ℕ × Meaning) → first_from someFilter someEq c w n rules ≡ some f → f.0 < n + length rules
+module _ (some_filter : (FilterRow → Bool) → Bool) (some_eq : (EqRow → Bool) → Bool) (c : Client) (w : Wish) where
+  pub first_below : (n : ℕ) (rules : List (Option Meaning)) (f : ℕ × Meaning) → first_from some_filter some_eq c w n rules ≡ some f → f.0 < n + length rules
   unfolding first_from
   first_below n [] f e = let z : ◌≡◌ {A = ℕ} 0 1 = cc in omega arith
   first_below n (none ∷ rules) f e = omega (arith, first_below (suc n) rules f e)
-  first_below n (some r ∷ rules) f e = by (rule_agrees someFilter someEq c w n r) (first_below (suc n) rules f) e
+  first_below n (some r ∷ rules) f e = by (rule_agrees some_filter some_eq c w n r) (first_below (suc n) rules f) e
     where
-      by : (b : Bool) → (first_from someFilter someEq c w (suc n) rules ≡ some f → f.0 < suc n + length rules)
-          → cond b (some (n, r)) (first_from someFilter someEq c w (suc n) rules) ≡ some f → f.0 < n + suc (length rules)
+      by : (b : Bool) → (first_from some_filter some_eq c w (suc n) rules ≡ some f → f.0 < suc n + length rules)
+          → cond b (some (n, r)) (first_from some_filter some_eq c w (suc n) rules) ≡ some f → f.0 < n + suc (length rules)
       by true h k = let is : (n, r) ≡ f = cc in omega (arith, ap (λ (p : ℕ × Meaning). p.0) is)
       by false h k = omega (arith, h k)
 

@@ -272,7 +272,7 @@ pub fn mqtt_acl_connect(
     address: &[u8],
     protocol: u8,
 ) -> u32
-    ensures { result ≡ answers.packed (ask (question.connect earlier (record { id = id.entry.now; name = rules.where_true (rules.flag has_name) name.now; password = rules.where_true (rules.flag has_password) password.now; address = rules.where_true (rules.flag has_address) address.now; protocol = some protocol })) store.now) }
+    ensures { result ≡ answers.packed (ask (question.connect earlier (record { id = id.now; name = rules.where_true (rules.flag has_name) name.now; password = rules.where_true (rules.flag has_password) password.now; address = rules.where_true (rules.flag has_address) address.now; protocol = some protocol })) store.now) }
 {
     connect_number(connect(
         store,
@@ -316,7 +316,7 @@ pub fn mqtt_acl_subscribe(
     topic: &[u8],
     qos: u64,
 ) -> u32
-    ensures { result ≡ answers.packed (ask (question.subscribe earlier (record { id = id.entry.now; name = rules.where_true (rules.flag has_name) name.now; password = rules.where_true (rules.flag has_password) password.now; address = rules.where_true (rules.flag has_address) address.now; protocol = rules.where_true (rules.flag has_protocol) protocol }) topic.now qos) store.now) }
+    ensures { result ≡ answers.packed (ask (question.subscribe earlier (record { id = id.now; name = rules.where_true (rules.flag has_name) name.now; password = rules.where_true (rules.flag has_password) password.now; address = rules.where_true (rules.flag has_address) address.now; protocol = rules.where_true (rules.flag has_protocol) protocol }) topic.now qos) store.now) }
 {
     subscribe_number(subscribe(
         store,
@@ -367,7 +367,7 @@ pub fn mqtt_acl_publish(
     topic: &[u8],
     disconnect: u8,
 ) -> u32
-    ensures { result ≡ answers.packed (ask (question.publish earlier (record { id = id.entry.now; name = rules.where_true (rules.flag has_name) name.now; password = rules.where_true (rules.flag has_password) password.now; address = rules.where_true (rules.flag has_address) address.now; protocol = rules.where_true (rules.flag has_protocol) protocol }) topic.now (rules.flag disconnect)) store.now) }
+    ensures { result ≡ answers.packed (ask (question.publish earlier (record { id = id.now; name = rules.where_true (rules.flag has_name) name.now; password = rules.where_true (rules.flag has_password) password.now; address = rules.where_true (rules.flag has_address) address.now; protocol = rules.where_true (rules.flag has_protocol) protocol }) topic.now (rules.flag disconnect)) store.now) }
 {
     publish_number(publish(
         store,

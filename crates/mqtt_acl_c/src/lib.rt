@@ -170,7 +170,7 @@ pub extern "C" fn mqtt_acl_connect(
     address: &[u8],
     protocol: u8,
 ) -> u32
-    ensures { result ≡ answers.packed (ask (question.connect earlier (record { id = id.entry.now; name = rules.where_true (rules.flag has_name) name.now; password = rules.where_true (rules.flag has_password) password.now; address = rules.where_true (rules.flag has_address) address.now; protocol = some protocol })) store.now) }
+    ensures { result ≡ answers.packed (ask (question.connect earlier (record { id = id.now; name = rules.where_true (rules.flag has_name) name.now; password = rules.where_true (rules.flag has_password) password.now; address = rules.where_true (rules.flag has_address) address.now; protocol = some protocol })) store.now) }
 {
     mqtt_acl::mqtt_acl_connect(
         store,
@@ -203,7 +203,7 @@ pub extern "C" fn mqtt_acl_subscribe(
     topic: &[u8],
     qos: u64,
 ) -> u32
-    ensures { result ≡ answers.packed (ask (question.subscribe earlier (record { id = id.entry.now; name = rules.where_true (rules.flag has_name) name.now; password = rules.where_true (rules.flag has_password) password.now; address = rules.where_true (rules.flag has_address) address.now; protocol = rules.where_true (rules.flag has_protocol) protocol }) topic.now qos) store.now) }
+    ensures { result ≡ answers.packed (ask (question.subscribe earlier (record { id = id.now; name = rules.where_true (rules.flag has_name) name.now; password = rules.where_true (rules.flag has_password) password.now; address = rules.where_true (rules.flag has_address) address.now; protocol = rules.where_true (rules.flag has_protocol) protocol }) topic.now qos) store.now) }
 {
     mqtt_acl::mqtt_acl_subscribe(
         store,
@@ -239,7 +239,7 @@ pub extern "C" fn mqtt_acl_publish(
     topic: &[u8],
     disconnect: u8,
 ) -> u32
-    ensures { result ≡ answers.packed (ask (question.publish earlier (record { id = id.entry.now; name = rules.where_true (rules.flag has_name) name.now; password = rules.where_true (rules.flag has_password) password.now; address = rules.where_true (rules.flag has_address) address.now; protocol = rules.where_true (rules.flag has_protocol) protocol }) topic.now (rules.flag disconnect)) store.now) }
+    ensures { result ≡ answers.packed (ask (question.publish earlier (record { id = id.now; name = rules.where_true (rules.flag has_name) name.now; password = rules.where_true (rules.flag has_password) password.now; address = rules.where_true (rules.flag has_address) address.now; protocol = rules.where_true (rules.flag has_protocol) protocol }) topic.now (rules.flag disconnect)) store.now) }
 {
     mqtt_acl::mqtt_acl_publish(
         store,

@@ -13,7 +13,7 @@ use borrow.Author.Tests.{eq-eqb, ne_eqb}
 use lib.ListN.{length, drop}
 use Rattle.text.specs.Text.{same}
 use Rattle.topic.specs.Topic.{tree_match}
-use Rattle.json_text.specs.Json.{Elements, no_element, element, depth_limit, line_value, longest, longestElement}
+use Rattle.json_text.specs.Json.{Elements, no_element, element, depth_limit, line_value, longest, longest_element}
 use Rattle.json_text.specs.Access.{first_item, next_item}
 use Rattle.json_text.specs.Lines.{line_at, next_line}
 use Rattle.json_text.specs.declared.Place.{Place}
@@ -82,9 +82,9 @@ topic_here topic line v t h e =
     ∙ ap (λ (b : Bool). not b && static_agrees topic (topic_means t)) (topic_under v t h.2 e)
 
 -- the topics by their places agree as those of the tree
-some-topic : (topic line : List ℕ) (most low high : ℕ) (es : Elements) (ts : List Topic) → ElementsIn line low high es → high - low ≤ most → longestElement es ≤ text_limit
+some-topic : (topic line : List ℕ) (most low high : ℕ) (es : Elements) (ts : List Topic) → ElementsIn line low high es → high - low ≤ most → longest_element es ≤ text_limit
     → topics_in es ≡ some ts → some_topic_from topic most line (element_place es) ≡ some_row (static_agrees topic) (map topic_means ts)
-unfolding some_topic_from element_place topics_in longestElement some_row
+unfolding some_topic_from element_place topics_in longest_element some_row
 some-topic topic line zero low high no_element ts h k l e = let all : [] ≡ ts = cc in ap (λ (us : List Topic). some_row (static_agrees topic) (map topic_means us)) all
 some-topic topic line (suc most) low high no_element ts h k l e = let all : [] ≡ ts = cc in ap (λ (us : List Topic). some_row (static_agrees topic) (map topic_means us)) all
 some-topic topic line zero low high (element at value rest) ts h k l e = absurd (omega (arith, value_next depth_limit line at h.2.reads, h.1, h.2.before))
@@ -97,30 +97,30 @@ some-topic topic line (suc most) low high (element at value rest) ts h k l e =
 
 -- ---- one line
 
-module _ (someFilter : (FilterRow → Bool) → Bool) (someEq : (EqRow → Bool) → Bool) (n : ℕ) (id topic line : List ℕ) where
+module _ (some_filter : (FilterRow → Bool) → Bool) (some_eq : (EqRow → Bool) → Bool) (n : ℕ) (id topic line : List ℕ) where
   -- the topics that a line has left to agree, by their place
   unfoldable pub topics_hold : Topics → Bool
   topics_hold All = true
   topics_hold (Listed t) =
-      some_topic_from topic (length line) line (first_item 0x5b 0x5d line t) || (someEq (eq_agrees n topic) || someFilter (filter_agrees n id topic))
+      some_topic_from topic (length line) line (first_item 0x5b 0x5d line t) || (some_eq (eq_agrees n topic) || some_filter (filter_agrees n id topic))
 
-  topics_hold_lem : (r : Rule) (o : Option Value) → FourthIs line r o → topics_agree someFilter someEq n id topic (means r).topics ≡ topics_hold (topics_place o)
+  topics_hold_lem : (r : Rule) (o : Option Value) → FourthIs line r o → topics_agree some_filter some_eq n id topic (means r).topics ≡ topics_hold (topics_place o)
   unfolding topics_hold topics_place topics_of topics_agree means longest
   topics_hold_lem r none h =
       let all : none ≡ r.topics = cc in
-      ap (λ (o : Option (List Topic)). topics_agree someFilter someEq n id topic (Option.map (map topic_means) o)) (sym all)
+      ap (λ (o : Option (List Topic)). topics_agree some_filter some_eq n id topic (Option.map (map topic_means) o)) (sym all)
   topics_hold_lem r (some v) h =
       let es = bound (as_array v) _ h.1 in
       let ts = mapped (topics_in es.0) _ es.2 in
       let is = array-value v es.1 in
       let a = array_is line v.at h.0.1 is in
-      let long : longestElement es.0 ≤ text_limit = rw is at h.0.2 in
+      let long : longest_element es.0 ≤ text_limit = rw is at h.0.2 in
       let walk = some-topic topic line (length line) (v.at + 1) h.0.0 es.0 ts.0 a.elements (omega (arith, value_next depth_limit line v.at h.0.1)) long ts.1 in
-      ap (λ (o : Option (List Topic)). topics_agree someFilter someEq n id topic (Option.map (map topic_means) o)) (sym ts.2)
-      ∙ (λ i. sym (ap (some_topic_from topic (length line) line) a.first ∙ walk) i || (someEq (eq_agrees n topic) || someFilter (filter_agrees n id topic)))
+      ap (λ (o : Option (List Topic)). topics_agree some_filter some_eq n id topic (Option.map (map topic_means) o)) (sym ts.2)
+      ∙ (λ i. sym (ap (some_topic_from topic (length line) line) a.first ∙ walk) i || (some_eq (eq_agrees n topic) || some_filter (filter_agrees n id topic)))
 
   wish_holds : (asked : Asked) (r : Rule) (o : Option Value) → FourthIs line r o
-      → wish_agrees someFilter someEq (wish_of asked topic) n id (means r).topics ≡ topics_hold (topics_for asked (topics_place o))
+      → wish_agrees some_filter some_eq (wish_of asked topic) n id (means r).topics ≡ topics_hold (topics_for asked (topics_place o))
   unfolding wish_agrees wish_of topics_for topics_hold
   wish_holds Connect r o h = refl
   wish_holds Subscribe r o h = topics_hold_lem r o h
@@ -144,30 +144,30 @@ covers-asked Pubsub Subscribe topic = refl
 covers-asked Pubsub Publish topic = refl
 
 -- what a head says of its line: the line has a rule of this access and flag, which agrees where its topics do
-pub record Headed (someFilter : (FilterRow → Bool) → Bool) (someEq : (EqRow → Bool) → Bool) (c : Client) (asked : Asked) (topic : List ℕ) (n : ℕ) (line : List ℕ)
+pub record Headed (some_filter : (FilterRow → Bool) → Bool) (some_eq : (EqRow → Bool) → Bool) (c : Client) (asked : Asked) (topic : List ℕ) (n : ℕ) (line : List ℕ)
     (allow flag : Bool) (topics : Topics) : Type 0 where
   pub rule : Meaning
   pub reads : rule_on (read_rule line) ≡ some rule
   pub allows : rule.allow ≡ allow
   pub flags : superuser rule ≡ flag
-  pub agreed : rule_agrees someFilter someEq c (wish_of asked topic) n rule ≡ topics_hold someFilter someEq n c.id topic line topics
+  pub agreed : rule_agrees some_filter some_eq c (wish_of asked topic) n rule ≡ topics_hold some_filter some_eq n c.id topic line topics
 
-module _ (someFilter : (FilterRow → Bool) → Bool) (someEq : (EqRow → Bool) → Bool) (c : Client) (asked : Asked) (topic : List ℕ) (n : ℕ) (line : List ℕ) where
+module _ (some_filter : (FilterRow → Bool) → Bool) (some_eq : (EqRow → Bool) → Bool) (c : Client) (asked : Asked) (topic : List ℕ) (n : ℕ) (line : List ℕ) where
   -- the rule of a line agrees where its head and its topics do
   rule-agrees : (r : Rule) → read_rule line ≡ gives r
-      → rule_agrees someFilter someEq c (wish_of asked topic) n (means r)
-      ≡ ((covers_asked r.control asked && agrees (means r) c) && topics_hold someFilter someEq n c.id topic line (topics_for asked (topics_place (fourth_of (line_value line)))))
+      → rule_agrees some_filter some_eq c (wish_of asked topic) n (means r)
+      ≡ ((covers_asked r.control asked && agrees (means r) c) && topics_hold some_filter some_eq n c.id topic line (topics_for asked (topics_place (fourth_of (line_value line)))))
   unfolding rule_agrees means
   rule-agrees r e =
-      (λ i. covers-asked r.control asked topic i && (agrees (means r) c && wish_holds someFilter someEq n c.id topic line asked r (fourth_of (line_value line)) (fourth_is line e) i))
-      ∙ sym (and_assoc (covers_asked r.control asked) (agrees (means r) c) (topics_hold someFilter someEq n c.id topic line (topics_for asked (topics_place (fourth_of (line_value line))))))
+      (λ i. covers-asked r.control asked topic i && (agrees (means r) c && wish_holds some_filter some_eq n c.id topic line asked r (fourth_of (line_value line)) (fourth_is line e) i))
+      ∙ sym (and_assoc (covers_asked r.control asked) (agrees (means r) c) (topics_hold some_filter some_eq n c.id topic line (topics_for asked (topics_place (fourth_of (line_value line))))))
 
   -- what a head says of the first rule that agrees: its line is passed, or has a rule
   abbrev pub HeadSays : Head → Type 0
   HeadSays Differs =
       (rest : List (Option Meaning))
-      → first_from someFilter someEq c (wish_of asked topic) n (rule_on (read_rule line) ∷ rest) ≡ first_from someFilter someEq c (wish_of asked topic) (suc n) rest
-  HeadSays (Agrees allow flag topics) = Headed someFilter someEq c asked topic n line allow flag topics
+      → first_from some_filter some_eq c (wish_of asked topic) n (rule_on (read_rule line) ∷ rest) ≡ first_from some_filter some_eq c (wish_of asked topic) (suc n) rest
+  HeadSays (Agrees allow flag topics) = Headed some_filter some_eq c asked topic n line allow flag topics
 
   pub head_says : {head : Head} → head_at c asked line ≡ head → HeadSays head
   unfolding head_at head_of rule_on first_from
@@ -184,25 +184,25 @@ module _ (someFilter : (FilterRow → Bool) → Bool) (someEq : (EqRow → Bool)
             reads = ap rule_on q;
             allows = unfold means in refl;
             flags = refl;
-            agreed = rule-agrees r q ∙ ap (λ (b : Bool). b && topics_hold someFilter someEq n c.id topic line left) k;
+            agreed = rule-agrees r q ∙ ap (λ (b : Bool). b && topics_hold some_filter some_eq n c.id topic line left) k;
           }
       at r false q k = λ rest.
-          ap (λ (o : Result Rule). first_from someFilter someEq c (wish_of asked topic) n (rule_on o ∷ rest)) q
-          ∙ ap (λ (b : Bool). cond b (some (n, means r)) (first_from someFilter someEq c (wish_of asked topic) (suc n) rest))
-          (rule-agrees r q ∙ ap (λ (b : Bool). b && topics_hold someFilter someEq n c.id topic line left) k)
+          ap (λ (o : Result Rule). first_from some_filter some_eq c (wish_of asked topic) n (rule_on o ∷ rest)) q
+          ∙ ap (λ (b : Bool). cond b (some (n, means r)) (first_from some_filter some_eq c (wish_of asked topic) (suc n) rest))
+          (rule-agrees r q ∙ ap (λ (b : Bool). b && topics_hold some_filter some_eq n c.id topic line left) k)
 
       by : (o : Result Rule) → read_rule line ≡ o → HeadSays (head_of c asked (topics_place (fourth_of (line_value line))) o)
-      by (refused cause) q = λ rest. ap (λ (o : Result Rule). first_from someFilter someEq c (wish_of asked topic) n (rule_on o ∷ rest)) q
+      by (refused cause) q = λ rest. ap (λ (o : Result Rule). first_from some_filter some_eq c (wish_of asked topic) n (rule_on o ∷ rest)) q
       by (gives r) q = at r (covers_asked r.control asked && agrees (means r) c) q refl
 
   -- a line whose head agrees decides where its topics agree
-  first_agrees : (rest : List (Option Meaning)) {allow flag : Bool} {topics : Topics} (h : Headed someFilter someEq c asked topic n line allow flag topics)
-      → first_from someFilter someEq c (wish_of asked topic) n (rule_on (read_rule line) ∷ rest)
-      ≡ cond (topics_hold someFilter someEq n c.id topic line topics) (some (n, h.rule)) (first_from someFilter someEq c (wish_of asked topic) (suc n) rest)
+  first_agrees : (rest : List (Option Meaning)) {allow flag : Bool} {topics : Topics} (h : Headed some_filter some_eq c asked topic n line allow flag topics)
+      → first_from some_filter some_eq c (wish_of asked topic) n (rule_on (read_rule line) ∷ rest)
+      ≡ cond (topics_hold some_filter some_eq n c.id topic line topics) (some (n, h.rule)) (first_from some_filter some_eq c (wish_of asked topic) (suc n) rest)
   unfolding first_from
   first_agrees rest h =
-      ap (λ (o : Option Meaning). first_from someFilter someEq c (wish_of asked topic) n (o ∷ rest)) h.reads
-      ∙ ap (λ (b : Bool). cond b (some (n, h.rule)) (first_from someFilter someEq c (wish_of asked topic) (suc n) rest)) h.agreed
+      ap (λ (o : Option Meaning). first_from some_filter some_eq c (wish_of asked topic) n (o ∷ rest)) h.reads
+      ∙ ap (λ (b : Bool). cond b (some (n, h.rule)) (first_from some_filter some_eq c (wish_of asked topic) (suc n) rest)) h.agreed
 
 -- ---- the walk over the lines
 

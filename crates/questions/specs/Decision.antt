@@ -64,13 +64,13 @@ unfoldable pub filter_agrees : ℕ → List ℕ → List ℕ → FilterRow → B
 filter_agrees n id topic r = eqb r.rule n && (same r.owner id && tree_match r.text topic)
 
 -- "is there a filter row such that ..", "is there an eq row such that ..": a decision looks at rows in no other way
-module _ (someFilter : (FilterRow → Bool) → Bool) (someEq : (EqRow → Bool) → Bool) where
+module _ (some_filter : (FilterRow → Bool) → Bool) (some_eq : (EqRow → Bool) → Bool) where
   -- "Topics agree if all, or the text equals an eq of this rule, static or row, or T-matches one of this rule's static filters or of its
   -- filter rows owned by this client": an empty array has no topic, and its rows count
   unfoldable pub topics_agree : ℕ → List ℕ → List ℕ → Option (List (TopicOf (List ℕ))) → Bool
   topics_agree n id topic none = true
   topics_agree n id topic (some topics) =
-      some_row (static_agrees topic) topics || (someEq (eq_agrees n topic) || someFilter (filter_agrees n id topic))
+      some_row (static_agrees topic) topics || (some_eq (eq_agrees n topic) || some_filter (filter_agrees n id topic))
 
   -- "connect skips topics"
   unfoldable pub wish_agrees : Wish → ℕ → List ℕ → Option (List (TopicOf (List ℕ))) → Bool
@@ -112,7 +112,7 @@ or_kept (some code) d = kept code
 
 -- the decision on a rule text and tests of rows
 unfoldable pub decide : Question → List ℕ → ((FilterRow → Bool) → Bool) → ((EqRow → Bool) → Bool) → Reply
-decide q text someFilter someEq = decides (or_kept (keeps q) (by_rule q (first_from someFilter someEq (client q) (wish q) 0 (rules_of text))))
+decide q text some_filter some_eq = decides (or_kept (keeps q) (by_rule q (first_from some_filter some_eq (client q) (wish q) 0 (rules_of text))))
 
 -- "3 store not as laid out"
 unfoldable pub decided : Question → Option View → Reply

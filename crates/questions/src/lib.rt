@@ -17,35 +17,35 @@ pub enum Asked {
 }
 
 // A rule's line before its topics: it agrees, with its access, the superuser flag and the topics that are left to agree, or it differs.
-#[derive(Drop)]
+#[derive(Clone, Copy)]
 pub enum Head {
     Agrees(bool, bool, Topics),
     Differs,
 }
 
 // The head of a line that is known to be a rule, read no further than it agrees; or that its words aren't plain.
-#[derive(Drop)]
+#[derive(Clone, Copy)]
 pub enum HeadRead {
     Is(Head),
     Unread,
 }
 
 // A topic that is passed: it agrees by itself, or this is the next one.
-#[derive(Drop)]
+#[derive(Clone, Copy)]
 pub enum TopicPassed {
     Agrees,
     Onward(Place),
 }
 
 // The first rule that agrees: its number from 1, its access and the superuser flag.
-#[derive(Drop)]
+#[derive(Clone, Copy)]
 pub enum Deciding {
     Rule(usize, bool, bool),
     NoRule,
 }
 
 // The earlier answer is kept; allowed by a rule, with the superuser flag; refused by a rule (0 none); refused by number.
-#[derive(Drop)]
+#[derive(Clone, Copy)]
 pub enum ConnectAnswer {
     Kept(u64),
     Allow(usize, bool),
@@ -54,7 +54,7 @@ pub enum ConnectAnswer {
 }
 
 // Allowed with the asked QoS.
-#[derive(Drop)]
+#[derive(Clone, Copy)]
 pub enum SubscribeAnswer {
     Kept(u64),
     Allow(usize, u64),
@@ -63,7 +63,7 @@ pub enum SubscribeAnswer {
 }
 
 // Refused with the caller's disconnect flag.
-#[derive(Drop)]
+#[derive(Clone, Copy)]
 pub enum PublishAnswer {
     Kept(u64),
     Allow(usize),

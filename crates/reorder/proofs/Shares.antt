@@ -5,7 +5,7 @@ use mathlib.Core.Path.{◌≡◌, refl}
 use mathlib.Core.Bool.{Bool, true, ◌&&◌, beq}
 use mathlib.Core.List.{List, [], ◌∷◌}
 use Rattle.text.specs.Text.{same}
-use Rattle.acl.specs.Demand3.{session as sessionOf, client as client_of, same_client, shares}
+use Rattle.acl.specs.Demand3.{session as session_of, client as client_of, same_client, shares}
 use Rattle.reorder.specs.Listing.{listed, session, client, id_of, name_of, meant}
 use Rattle.reorder.specs.Running.{share}
 
@@ -20,5 +20,5 @@ abbrev told : ℕ → ℕ → Bool
 told m n = beq (share (listed m) (listed n)) (shares (meant (listed m)) (meant (listed n)))
 
 pub listed_shares : every (λ m. every (told m) numbers) numbers ≡ true
-unfolding same sessionOf client_of same_client shares listed session client id_of name_of meant share
+unfolding same session_of client_of same_client shares listed session client id_of name_of meant share
 listed_shares = refl

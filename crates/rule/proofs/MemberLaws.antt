@@ -28,7 +28,7 @@ use Rattle.json_text.proofs.PlainLaws.{plain_text_by}
 use Rattle.json_text.proofs.AccessLaws.{MembersIn, kind_is_lem, object_is, named_is, number_of, number_is, truth_is, string_here}
 use Rattle.json_text.proofs.ValueLaws.{All, value_as, value_by}
 use Rattle.rule.specs.Rule as spec
-use Rattle.rule.specs.Rule.{Located, Value, named, member_named_lem, as_text, as_number, as_bool, as_object, password_of, flag, user_of, users_in, everyone, users_of, is_word, lower}
+use Rattle.rule.specs.Rule.{Located, Value, named, value_named, as_text, as_number, as_bool, as_object, password_of, flag, user_of, users_in, everyone, users_of, is_word, lower}
 use Rattle.rule.specs.Places.{word_of, word_at, value_of, object_of, member_of, is_text_kind, is_text_at, text_place, found_number, found_bool, password_answer, placed_user, user_here, user_answer, placed_protocol, protocol_here, placed_users, listed_in, users_here, users_answer}
 use Rattle.rule.specs.Members.{text_from, number_from, truth_from, password_from, flagged, with_password, user_from, protocol_from, users_from, user_listed, users_listed, places_at, places_in, no_places}
 use Rattle.rule.specs.declared.MemberPlaces.{MemberPlaces}
@@ -56,21 +56,21 @@ last_stands : (name line : List ℕ) (low high : ℕ) (ms : Members) (place : Pl
     → Stands line (last_named name ms place) (named name ms found)
 unfolding last_named named
 last_stands name line low high no_member place found h k = k
-last_stands name line low high (member at n value_at_lem value rest) place found h k =
-    last_stands name line h.0 high rest (cond (same n name) (At value_at_lem) place) (cond (same n name) (some (record { at = value_at_lem; value = value })) found) h.3
+last_stands name line low high (member at n value_start value rest) place found h k =
+    last_stands name line h.0 high rest (cond (same n name) (At value_start) place) (cond (same n name) (some (record { at = value_start; value = value })) found) h.3
     (by (same n name))
   where
-    by : (b : Bool) → Stands line (cond b (At value_at_lem) place) (cond b (some (record { at = value_at_lem; value = value })) found)
+    by : (b : Bool) → Stands line (cond b (At value_start) place) (cond b (some (record { at = value_start; value = value })) found)
     by true = (refl, (h.0, h.2.reads))
     by false = k
 
 -- what json finds is the member of the tree
 pub member_stands : (name line : List ℕ) (at : ℕ) → Stands line (member_named name line at) (member_of line at name)
-unfolding member_of value_of bind as_object member_named_lem named_in member_named
+unfolding member_of value_of bind as_object value_named named_in member_named
 member_stands name line at = by (value_here line at) refl
   where
     in-value : (r : Read Json) (j : Json) → value_here line at ≡ some r → r.value ≡ j
-        → Stands line (named_in name j) (bind (as_object (record { at = at; value = j })) (member_named_lem name))
+        → Stands line (named_in name j) (bind (as_object (record { at = at; value = j })) (value_named name))
     in-value r null e q = tt
     in-value r (bool b) e q = tt
     in-value r (number n) e q = tt
@@ -80,10 +80,10 @@ member_stands name line at = by (value_here line at) refl
 
     by : (o : Option (Read Json)) → value_here line at ≡ o
         → Stands line (member_named name line at)
-        (bind (bind o (λ r. some (record { at = at; value = r.value }))) (λ v. bind (as_object v) (member_named_lem name)))
+        (bind (bind o (λ r. some (record { at = at; value = r.value }))) (λ v. bind (as_object v) (value_named name)))
     by none e = subst (λ (o : Option (Read Json)). Stands line (elim o as (λ _. Place) [ none ↦ Nowhere | some r ↦ named_in name r.value ]) none) (sym e) tt
     by (some r) e =
-        subst (λ p. Stands line p (bind (as_object (record { at = at; value = r.value })) (member_named_lem name))) (sym (named_is name line at e))
+        subst (λ p. Stands line p (bind (as_object (record { at = at; value = r.value })) (value_named name))) (sym (named_is name line at e))
         (in-value r r.value e refl)
 
 -- ---- what the accessors of a member give, by its place
@@ -177,11 +177,11 @@ password_here line p e = ap (λ (b : Bool). cond b (Password (At p)) BadPassword
 -- ---- the users of an object, by its members
 
 -- the member of an object
-object_member : (line : List ℕ) (at : ℕ) (name : List ℕ) → member_of line at name ≡ bind (object_of line at) (member_named_lem name)
+object_member : (line : List ℕ) (at : ℕ) (name : List ℕ) → member_of line at name ≡ bind (object_of line at) (value_named name)
 unfolding member_of object_of bind
 object_member line at name = by (value_of line at)
   where
-    by : (o : Option Value) → bind o (λ v. bind (as_object v) (member_named_lem name)) ≡ bind (bind o as_object) (member_named_lem name)
+    by : (o : Option Value) → bind o (λ v. bind (as_object v) (value_named name)) ≡ bind (bind o as_object) (value_named name)
     by none = refl
     by (some v) = refl
 
@@ -216,12 +216,12 @@ user_by allow line at z e f g =
 
     by : (o : Option Members)
         → user_answer (elim o as (λ _. Option (Option spec.User)) [ none ↦ some none | some ms ↦ user_of allow ms ])
-        ≡ user_from allow (text_place (bind (bind o (member_named_lem (ascii "user"))) as_text))
-        (password_answer (password_of (bind o (member_named_lem (ascii "password"))))) (found_bool (bind (bind o (member_named_lem (ascii "superuser"))) as_bool))
+        ≡ user_from allow (text_place (bind (bind o (value_named (ascii "user"))) as_text))
+        (password_answer (password_of (bind o (value_named (ascii "password"))))) (found_bool (bind (bind o (value_named (ascii "superuser"))) as_bool))
     by none = refl
     by (some ms) =
-        each allow (bind (member_named_lem (ascii "user") ms) as_text) (password_of (member_named_lem (ascii "password") ms))
-        (bind (member_named_lem (ascii "superuser") ms) as_bool)
+        each allow (bind (value_named (ascii "user") ms) as_text) (password_of (value_named (ascii "password") ms))
+        (bind (value_named (ascii "superuser") ms) as_bool)
 
 value_there : (line : List ℕ) (at : ℕ) {p : ℕ} → behind (value_here line at) ≡ At p → value_of line at ≡ none → ⊥
 unfolding value_of bind behind
@@ -259,19 +259,19 @@ users_by allow line at there e f g h = by (value_of line at) (value_there line a
     by-object : (o : Option Members)
         → users_answer (listed_in allow o)
         ≡ users_from (user_answer (elim o as (λ _. Option (Option spec.User)) [ none ↦ some none | some ms ↦ user_of allow ms ]))
-        (text_place (bind (bind o (member_named_lem (ascii "clientid"))) as_text)) (text_place (bind (bind o (member_named_lem (ascii "ipaddr"))) as_text))
-        (placed_protocol (Option.map (λ n. n % 256) (bind (bind o (member_named_lem (ascii "protocol"))) as_number)))
+        (text_place (bind (bind o (value_named (ascii "clientid"))) as_text)) (text_place (bind (bind o (value_named (ascii "ipaddr"))) as_text))
+        (placed_protocol (Option.map (λ n. n % 256) (bind (bind o (value_named (ascii "protocol"))) as_number)))
     by-object none = refl
     by-object (some ms) =
-        by-user (user_of allow ms) (bind (member_named_lem (ascii "clientid") ms) as_text) (bind (member_named_lem (ascii "ipaddr") ms) as_text)
-        (Option.map (λ n. n % 256) (bind (member_named_lem (ascii "protocol") ms) as_number))
+        by-user (user_of allow ms) (bind (value_named (ascii "clientid") ms) as_text) (bind (value_named (ascii "ipaddr") ms) as_text)
+        (Option.map (λ n. n % 256) (bind (value_named (ascii "protocol") ms) as_number))
 
     by : (o : Option Value) → (o ≡ none → ⊥)
         → users_answer (bind o (λ v. listed_in allow (as_object v)))
         ≡ users_from (user_answer (elim (bind o as_object) as (λ _. Option (Option spec.User)) [ none ↦ some none | some ms ↦ user_of allow ms ]))
-        (text_place (bind (bind o (λ v. bind (as_object v) (member_named_lem (ascii "clientid")))) as_text))
-        (text_place (bind (bind o (λ v. bind (as_object v) (member_named_lem (ascii "ipaddr")))) as_text))
-        (placed_protocol (Option.map (λ n. n % 256) (bind (bind o (λ v. bind (as_object v) (member_named_lem (ascii "protocol")))) as_number)))
+        (text_place (bind (bind o (λ v. bind (as_object v) (value_named (ascii "clientid")))) as_text))
+        (text_place (bind (bind o (λ v. bind (as_object v) (value_named (ascii "ipaddr")))) as_text))
+        (placed_protocol (Option.map (λ n. n % 256) (bind (bind o (λ v. bind (as_object v) (value_named (ascii "protocol")))) as_number)))
     by none n = absurd (n refl)
     by (some v) n = by-object (as_object v)
 

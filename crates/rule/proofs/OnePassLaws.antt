@@ -12,7 +12,7 @@ use Rattle.text.specs.Ascii.{ascii}
 use Rattle.text.specs.Text.{same}
 use Rattle.text.proofs.Laws.{same_true}
 use Rattle.topic.specs.Topic.{valid_filter}
-use Rattle.json_text.specs.Json.{Json, text, array, object, Elements, no_element, element, Members, no_member, member, Read, is_at, skip_blanks, text_at, name_at, separator_at, value_at, depth_limit, longest, longestElement, longestMember}
+use Rattle.json_text.specs.Json.{Json, text, array, object, Elements, no_element, element, Members, no_member, member, Read, is_at, skip_blanks, text_at, name_at, separator_at, value_at, depth_limit, longest, longest_element, longest_member}
 use Rattle.json_text.specs.Access.{count, count_of, checked, value_here, stepped, behind}
 use Rattle.json_text.specs.Strings.{Decoded}
 use Rattle.json_text.specs.declared.Cursor.{Cursor}
@@ -46,7 +46,7 @@ use Rattle.json_text.proofs.ElementLaws as items
 use Rattle.json_text.proofs.ElementLaws.{line_read}
 use Rattle.rule.specs.Limits.{text_limit, topics_limit}
 use Rattle.rule.specs.Rule as spec
-use Rattle.rule.specs.Rule.{Value, nth, named, member_named_lem, is_template, as_text, as_array, as_object, topic_of, topics_in, topics_of}
+use Rattle.rule.specs.Rule.{Value, nth, named, value_named, is_template, as_text, as_array, as_object, topic_of, topics_in, topics_of}
 use Rattle.rule.specs.Places.{value_of, users_answer, topic_answer, is_topic, over_topics, too_many, topics_here, place_of, word_of, control_of_word, control_here, users_of_place, with_topics, with_control, with_users, rule_behind, with_access, access_at}
 use Rattle.rule.specs.OnePass.{WherePlace, PartTo, TopicTo, TopicsTo, Tail, WhereRule, FromTopics, FromControl, FromUsers, IsRule}
 use Rattle.rule.proofs.RuleLaws.{is_some, topics_here_lem, placed, parts_placed, read_valid}
@@ -116,12 +116,12 @@ pub record TopicsFrom (line : List ℕ) (at room end : ℕ) : Type 0 where
   pub elements : Elements
   pub topics : List spec.Topic
   pub reads : elements_from 6 line at ≡ some (record { value = elements; next = end })
-  pub short : longestElement elements ≤ text_limit
+  pub short : longest_element elements ≤ text_limit
   pub few : count elements ≤ room
   pub are : topics_in elements ≡ some topics
 
 pub last_topic : (line : List ℕ) (at room : ℕ) {end next : ℕ} → 0 < room → TopicTo line at end → separator_at 0x5d line end ≡ Close next → TopicsFrom line at room next
-unfolding topics_in bind longestElement count
+unfolding topics_in bind longest_element count
 last_topic line at room h t q =
     record {
       elements = element at t.value no_element;
@@ -134,7 +134,7 @@ last_topic line at room h t q =
 
 pub next_topic : (line : List ℕ) (at room : ℕ) {less end next last : ℕ} → less < room → TopicTo line at end → separator_at 0x5d line end ≡ Comma next
     → TopicsFrom line next less last → TopicsFrom line at room last
-unfolding topics_in bind longestElement count
+unfolding topics_in bind longest_element count
 next_topic line at room h t q r =
     record {
       elements = element at t.value r.elements;
@@ -162,7 +162,7 @@ topics_fine line at {end} t =
 
 module _ (line : List ℕ) (at : ℕ) (holds : Elements → Type 0) {v : Json} {end : ℕ} (reads : value_at 7 line at ≡ some (record { value = v; next = end })) (short : longest v ≤ text_limit) where
   pub tail_last : {next last : ℕ} → separator_at 0x5d line end ≡ Close next → last ≡ skip_blanks line next → last ≡ length line → holds (element at v no_element) → Tail line at holds
-  unfolding longestElement
+  unfolding longest_element
   tail_last {next} q b l h =
       record {
         rest = element at v no_element;
@@ -175,7 +175,7 @@ module _ (line : List ℕ) (at : ℕ) (holds : Elements → Type 0) {v : Json} {
 
   pub tail_more : {next : ℕ} {behind : Elements → Type 0} → separator_at 0x5d line end ≡ Comma next → Tail line next behind → ((rest : Elements) → behind rest → holds (element at v rest))
       → Tail line at holds
-  unfolding longestElement
+  unfolding longest_element
   tail_more q t h =
       record {
         rest = element at v t.rest;
@@ -240,16 +240,16 @@ member_forward {depth} line {at} {p = p} {end = end} m q = omega (arith, name_ne
 -- members from a place on, and behind them the closing bracket
 pub record MembersFrom (depth : ℕ) (line : List ℕ) (at : ℕ) (rest : Members) (end : ℕ) : Type 0 where
   pub reads : members_from depth line at ≡ some (record { value = rest; next = end })
-  pub short : longestMember rest ≤ text_limit
+  pub short : longest_member rest ≤ text_limit
 
 pub last_member : {depth : ℕ} (line : List ℕ) {at : ℕ} {name : List ℕ} {p end next : ℕ} (m : MemberAt depth line at name p end) → separator_at 0x7d line end ≡ Close next
     → MembersFrom depth line at (member at name p m.value no_member) next
-unfolding longestMember
+unfolding longest_member
 last_member {depth} line {at} m q = record { reads = items.members_last depth line at m.named m.reads q; short = omega (arith, m.short_name, m.short) }
 
 pub next_member : {depth : ℕ} (line : List ℕ) {at : ℕ} {name : List ℕ} {p end next last : ℕ} {rest : Members} (m : MemberAt depth line at name p end) → separator_at 0x7d line end ≡ Comma next
     → MembersFrom depth line next rest last → MembersFrom depth line at (member at name p m.value rest) last
-unfolding longestMember
+unfolding longest_member
 next_member {depth} line {at} m q f = record { reads = items.members_more depth line at m.named m.reads q f.reads; short = omega (arith, m.short_name, m.short, f.short) }
 
 pub first_member : (line : List ℕ) (at : ℕ) {first end : ℕ} {rest : Members} → is_at line at 0x7b ≡ true → first ≡ skip_blanks line (at + 1) → MembersFrom 6 line first rest end
@@ -346,11 +346,11 @@ module _ (line : List ℕ) (at : ℕ) {opens closes end : ℕ} (q : EqTo line at
       (items.members_last 5 line q.name (name_read line q.name (plain_string line q.name q.quoted_name) q.behind) (plain_value 5 line opens eq_string) q.ends)
 
   pub eq_topic : topic_of (record { at = at; value = eq_object }) ≡ some (record { eq = true; text = record { at = opens; text = under } })
-  unfolding under_name eq_object topic_of as_object member_named_lem named bind as_text
+  unfolding under_name eq_object topic_of as_object value_named named bind as_text
   eq_topic = rw q.is
 
   pub eq_read : closes - (opens + 1) ≤ text_limit → TopicTo line at end
-  unfolding under_name eq_object longest longestMember
+  unfolding under_name eq_object longest longest_member
   eq_read h =
       record {
         value = eq_object;
@@ -466,7 +466,7 @@ module _ (line : List ℕ) (allow : Bool) {first access end users : ℕ} {w : Wo
       → first ≡ skip_blanks line 0 → is_at line first 0x5b ≡ true → access ≡ skip_blanks line (first + 1)
       → Plain line access end → word_of (take (end - (access + 1)) (drop (access + 1) line)) ≡ w → separator_at 0x5d line (end + 1) ≡ Comma users
       → {rule : Rule} → FromUsers line allow users rule → IsRule line rule
-  unfolding longest longestElement checked nth place_of placed access_at rule_behind
+  unfolding longest longest_element checked nth place_of placed access_at rule_behind
   line-rule is-access no_other f o a p word q {rule} t fits =
       read_valid line fits (ap checked (line_read line f reads t.ends)) (le-ltb text_limit (longest (array es)) (omega (arith, short, t.short)))
       ∙ (here_by line (sym (parts_placed line (skip_blanks line 0 + 1) t.next es found.first found.elements)) t.fine.0 refl

@@ -15,7 +15,7 @@ use Rattle.text.proofs.Laws.{isnt, same_true}
 use Rattle.topic.specs.Topic.{valid_filter}
 use Rattle.json_text.specs.Utf8.{byte_at, between}
 use Rattle.json_text.specs.Strings.{Decoded, string_at}
-use Rattle.json_text.specs.Json.{Json, null, bool, number, text, array, object, Elements, no_element, element, Members, no_member, member, Read, is_at, skip_blanks, kind_of, depth_limit, line_value, longest, longestElement, longestMember}
+use Rattle.json_text.specs.Json.{Json, null, bool, number, text, array, object, Elements, no_element, element, Members, no_member, member, Read, is_at, skip_blanks, kind_of, depth_limit, line_value, longest, longest_element, longest_member}
 use Rattle.json_text.specs.Access.{checked, value_here, kind_at, first_item, count_of, decoded_length}
 use Rattle.json_text.specs.declared.Checked.{Checked}
 use Rattle.json_text.specs.declared.Checked.TheVariants.{Invalid, Valid}
@@ -29,7 +29,7 @@ use Rattle.json_text.proofs.AccessSteps.{kind_is, kind_opens}
 use Rattle.json_text.proofs.AccessLaws.{kind_is_lem, element_place, ElementsIn, array_is, count_is, text_of, length-is, string_here, line_is}
 use Rattle.rule.specs.Limits.{line_limit, text_limit}
 use Rattle.rule.specs.Rule as spec
-use Rattle.rule.specs.Rule.{Value, lower, is_word, is_template, nth, named, member_named_lem, as_text, as_array, as_object, access_of, users_of, control_word, control_of, topic_of, topics_in, topics_of, rule_in, rule_of}
+use Rattle.rule.specs.Rule.{Value, lower, is_word, is_template, nth, named, value_named, as_text, as_array, as_object, access_of, users_of, control_word, control_of, topic_of, topics_in, topics_of, rule_in, rule_of}
 use Rattle.rule.specs.RuleText.{Result, refused, fourth_over, topics_over, or_not_a_rule, rule_from, read_rule}
 use Rattle.rule.specs.Places.{value_of, place_of, word_of, word_at, users_answer, control_answer, placed_users, placed_topic, topic_answer, topics_place, elements_of, placed_rule, fourth_of, rule_answer, is_topic, topics_from, are_topics, topics_here, next_part, parts_here, over_topics, too_many, control_of_word, control_here, users_of_place, with_topics, with_control, with_users, rule_behind, with_access, access_at, rule_here}
 use Rattle.rule.specs.declared.Word.{Word}
@@ -54,8 +54,8 @@ abbrev pub Stands : List ℕ → Option Value → Type 0
 Stands line none = Unit {0}
 Stands line (some v) = (next : ℕ) × (value_here line v.at ≡ some (record { value = v.value; next = next })) × (longest v.value ≤ text_limit)
 
-pub nth_stands : (line : List ℕ) (low high : ℕ) (es : Elements) (n : ℕ) → ElementsIn line low high es → longestElement es ≤ text_limit → Stands line (nth n es)
-unfolding nth longestElement
+pub nth_stands : (line : List ℕ) (low high : ℕ) (es : Elements) (n : ℕ) → ElementsIn line low high es → longest_element es ≤ text_limit → Stands line (nth n es)
+unfolding nth longest_element
 nth_stands line low high no_element zero h k = tt
 nth_stands line low high no_element (suc n) h k = tt
 nth_stands line low high (element at value rest) zero h k = (h.0, h.2.reads, omega arith)
@@ -206,13 +206,13 @@ abbrev Fits : Option Value → Type 0
 Fits none = Unit {0}
 Fits (some v) = longest v.value ≤ text_limit
 
-named-fits : (name : List ℕ) (ms : Members) (found : Option Value) → longestMember ms ≤ text_limit → Fits found → Fits (named name ms found)
-unfolding named longestMember
+named-fits : (name : List ℕ) (ms : Members) (found : Option Value) → longest_member ms ≤ text_limit → Fits found → Fits (named name ms found)
+unfolding named longest_member
 named-fits name no_member found h k = k
-named-fits name (member at n value_at_lem value rest) found h k =
-    named-fits name rest (cond (same n name) (some (record { at = value_at_lem; value = value })) found) (omega arith) (by (same n name))
+named-fits name (member at n value_start value rest) found h k =
+    named-fits name rest (cond (same n name) (some (record { at = value_start; value = value })) found) (omega arith) (by (same n name))
   where
-    by : (b : Bool) → Fits (cond b (some (record { at = value_at_lem; value = value })) found)
+    by : (b : Bool) → Fits (cond b (some (record { at = value_start; value = value })) found)
     by true = omega arith
     by false = k
 
@@ -248,11 +248,11 @@ topic_is v = by v.value
     by (number n) h = refl
     by (text t) h = plain t (is_template t || valid_filter t) h
     by (array es) h = refl
-    by (object ms) h = under (member_named_lem (ascii "eq") ms) (unfold member_named_lem in named-fits (ascii "eq") ms none h tt)
+    by (object ms) h = under (value_named (ascii "eq") ms) (unfold value_named in named-fits (ascii "eq") ms none h tt)
 
-topics_from_lem : (line : List ℕ) (most low high : ℕ) (es : Elements) → ElementsIn line low high es → high - low ≤ most → longestElement es ≤ text_limit
+topics_from_lem : (line : List ℕ) (most low high : ℕ) (es : Elements) → ElementsIn line low high es → high - low ≤ most → longest_element es ≤ text_limit
     → topics_from most line (element_place es) ≡ is_some (topics_in es)
-unfolding topics_from element_place topics_in is_some longestElement bind
+unfolding topics_from element_place topics_in is_some longest_element bind
 topics_from_lem line zero low high no_element h k l = refl
 topics_from_lem line (suc most) low high no_element h k l = refl
 topics_from_lem line zero low high (element at value rest) h k l = absurd (omega (arith, value_next depth_limit line at h.2.reads, h.1, h.2.before))

@@ -15,7 +15,7 @@ use Rattle.json_text.specs.Json.{Json, null, bool, number, text, array, object, 
 use Rattle.json_text.specs.Access.{value_here}
 use Rattle.json_text.proofs.AccessLaws.{ElementsIn, MembersIn, array_is, object_is, string_here, line_is}
 use Rattle.rule.specs.Rule as spec
-use Rattle.rule.specs.Rule.{Located, Value, is_word, is_template, nth, named, member_named_lem, as_text, as_bool, as_array, as_object, access_of, password_of, user_of, users_in, everyone, users_of, control_of, topic_of, topics_in, topics_of, rule_in, rule_of}
+use Rattle.rule.specs.Rule.{Located, Value, is_word, is_template, nth, named, value_named, as_text, as_bool, as_array, as_object, access_of, password_of, user_of, users_in, everyone, users_of, control_of, topic_of, topics_in, topics_of, rule_in, rule_of}
 use Rattle.rule.specs.RuleText.{refused, gives, topics_over, or_not_a_rule, rule_from, read_rule}
 use Rattle.rule.specs.Limits.{line_limit, text_limit}
 use Rattle.rule.specs.declared.Refusal.TheVariants.{TooLong}
@@ -68,15 +68,15 @@ module _ (line : List ℕ) where
       → Listed ValueStands (named name ms found)
   unfolding named
   named_stands name no_member found low high h k = k
-  named_stands name (member at n value_at_lem value rest) found low high h k =
-      named_stands name rest (cond (same n name) (some (record { at = value_at_lem; value = value })) found) h.0 high h.3 (by (same n name))
+  named_stands name (member at n value_start value rest) found low high h k =
+      named_stands name rest (cond (same n name) (some (record { at = value_start; value = value })) found) h.0 high h.3 (by (same n name))
     where
-      by : (b : Bool) → Listed ValueStands (cond b (some (record { at = value_at_lem; value = value })) found)
+      by : (b : Bool) → Listed ValueStands (cond b (some (record { at = value_start; value = value })) found)
       by true = listed _ (record { next = h.0; reads = h.2.reads })
       by false = k
 
-  pub member_stands : (name : List ℕ) (ms : Members) → MembersStand ms → Listed ValueStands (member_named_lem name ms)
-  unfolding member_named_lem
+  pub member_stands : (name : List ℕ) (ms : Members) → MembersStand ms → Listed ValueStands (value_named name ms)
+  unfolding value_named
   member_stands name ms s = named_stands name ms none s.low s.high s.members unlisted
 
   pub text_stands : (v : Value) → ValueStands v → Listed (Stands line) (as_text v)
@@ -120,8 +120,8 @@ module _ (line : List ℕ) where
       by (array es) e = listed _ (record { low = v.at + 1; high = s.next; elements = (array_is line v.at s.reads e).elements })
       by (object ms) e = unlisted
 
-  pub member_text : (name : List ℕ) (ms : Members) → MembersStand ms → Listed (Stands line) (bind (member_named_lem name ms) as_text)
-  member_text name ms s = listed-bind (member_named_lem name ms) as_text (member_stands name ms s) text_stands
+  pub member_text : (name : List ℕ) (ms : Members) → MembersStand ms → Listed (Stands line) (bind (value_named name ms) as_text)
+  member_text name ms s = listed-bind (value_named name ms) as_text (member_stands name ms s) text_stands
 
   -- ---- users
 
@@ -132,10 +132,10 @@ module _ (line : List ℕ) where
 
   pub user_stands : (allow : Bool) (ms : Members) → MembersStand ms → Listed (Listed (UserStands line)) (user_of allow ms)
   unfolding user_of
-  user_stands allow ms s = by (bind (member_named_lem (ascii "user") ms) as_text) (member_text (ascii "user") ms s) allow
+  user_stands allow ms s = by (bind (value_named (ascii "user") ms) as_text) (member_text (ascii "user") ms s) allow
     where
       superuser : Bool
-      superuser = spec.flag (bind (member_named_lem (ascii "superuser") ms) as_bool)
+      superuser = spec.flag (bind (value_named (ascii "superuser") ms) as_bool)
 
       by : (o : Option Located) → Listed (Stands line) o → (b : Bool)
           → Listed (Listed (UserStands line))
@@ -145,14 +145,14 @@ module _ (line : List ℕ) where
                 cond b
                 (map
                 (λ password. some (record { name = name; password = password; superuser = superuser }))
-                (password_of (member_named_lem (ascii "password") ms)))
+                (password_of (value_named (ascii "password") ms)))
                 (some (some (record { name = name; password = none; superuser = false })))
           ])
       by o unlisted b = listed none unlisted
       by o (listed name h) true =
-          listed-map (password_of (member_named_lem (ascii "password") ms))
+          listed-map (password_of (value_named (ascii "password") ms))
           (λ password. some (record { name = name; password = password; superuser = superuser }))
-          (password_stands (member_named_lem (ascii "password") ms) (member_stands (ascii "password") ms s))
+          (password_stands (value_named (ascii "password") ms) (member_stands (ascii "password") ms s))
           (λ password k. listed _ (record { name = h; password = k }))
       by o (listed name h) false = listed _ (listed _ (record { name = h; password = unlisted }))
 
@@ -198,11 +198,11 @@ module _ (line : List ℕ) where
       by : (o : Option Members) → Listed MembersStand o
           → Listed (λ (t : spec.Topic). Stands line t.text)
           (elim o [
-            | some ms ↦ map (λ t. record { eq = true; text = t }) (bind (member_named_lem (ascii "eq") ms) as_text)
+            | some ms ↦ map (λ t. record { eq = true; text = t }) (bind (value_named (ascii "eq") ms) as_text)
             | none ↦ bind (as_text v) (λ t. cond (is_template t.text || valid_filter t.text) (some (record { eq = false; text = t })) none)
           ])
       by o unlisted = listed-bind (as_text v) _ (text_stands v s) (λ t h. plain t h (is_template t.text || valid_filter t.text))
-      by o (listed ms h) = listed-map (bind (member_named_lem (ascii "eq") ms) as_text) _ (member_text (ascii "eq") ms h) (λ t k. k)
+      by o (listed ms h) = listed-map (bind (value_named (ascii "eq") ms) as_text) _ (member_text (ascii "eq") ms h) (λ t k. k)
 
   pub topics_in_stand : (es : Elements) (low high : ℕ) → ElementsIn line low high es → Listed TopicsStand (topics_in es)
   unfolding topics_in

@@ -27,7 +27,7 @@ use Rattle.json_text.proofs.ValueLaws.{All}
 use Rattle.json_text.proofs.AccessSteps.{kind_opens}
 use Rattle.json_text.proofs.PlainLaws.{Plain}
 use Rattle.rule.specs.Rule as spec
-use Rattle.rule.specs.Rule.{Located, Value, member_named_lem, as_text, as_object, is_template, topic_of}
+use Rattle.rule.specs.Rule.{Located, Value, value_named, as_text, as_object, is_template, topic_of}
 use Rattle.rule.specs.Limits.{text_limit}
 use Rattle.rule.specs.Places.{value_of, member_of, text_place, placed_topic, topic_answer, string_topic, eq_topic, is_topic, topics_from, are_topics, topics_here}
 use Rattle.rule.specs.declared.Topic.{Topic}
@@ -228,16 +228,16 @@ module _ (line : List ℕ) (at : ℕ) where
   topic_object : kind_at line at ≡ Object → bind (value_of line at) topic_of ≡ map as_eq (bind (member_of line at (ascii "eq")) as_text)
   unfolding topic_of as_object member_of as_eq
   topic_object k =
-      in_object topic_of (λ v. map as_eq (bind (bind (as_object v) (member_named_lem (ascii "eq"))) as_text)) line at among k ∙ by (value_of line at)
+      in_object topic_of (λ v. map as_eq (bind (bind (as_object v) (value_named (ascii "eq"))) as_text)) line at among k ∙ by (value_of line at)
     where
       among : (p : ℕ) (ms : Members) →
           topic_of (record { at = p; value = object ms })
-          ≡ map as_eq (bind (bind (as_object (record { at = p; value = object ms })) (member_named_lem (ascii "eq"))) as_text)
+          ≡ map as_eq (bind (bind (as_object (record { at = p; value = object ms })) (value_named (ascii "eq"))) as_text)
       among p ms = unfold bind in refl
 
       by : (o : Option Value)
-          → bind o (λ v. map as_eq (bind (bind (as_object v) (member_named_lem (ascii "eq"))) as_text))
-          ≡ map as_eq (bind (bind o (λ v. bind (as_object v) (member_named_lem (ascii "eq")))) as_text)
+          → bind o (λ v. map as_eq (bind (bind (as_object v) (value_named (ascii "eq"))) as_text))
+          ≡ map as_eq (bind (bind o (λ v. bind (as_object v) (value_named (ascii "eq")))) as_text)
       by none = unfold bind in refl
       by (some v) = unfold bind in refl
 
@@ -270,7 +270,7 @@ module _ (line : List ℕ) (at : ℕ) where
       by : (o : Option Members) (t : Option Located) → o ≡ none → t ≡ none
           → ◌≡◌ {A = Option spec.Topic}
           (elim o as (λ _. Option spec.Topic) [
-            | some ms ↦ map (λ t. record { eq = true; text = t }) (bind (member_named_lem (ascii "eq") ms) as_text)
+            | some ms ↦ map (λ t. record { eq = true; text = t }) (bind (value_named (ascii "eq") ms) as_text)
             | none ↦ bind t (λ t. cond (is_template t.text || valid_filter t.text) (some (record { eq = false; text = t })) none)
           ])
           none

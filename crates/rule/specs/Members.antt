@@ -3,7 +3,7 @@ use Rattle.std.specs.Prelude.{ℕ, ◌+◌, ◌≤◌, ◌%◌, ◌≡◌, Bool,
 use Rattle.std.proofs.Math.Option.{some}
 use Rattle.text.specs.Ascii.{ascii}
 use Rattle.text.specs.Text.{same}
-use Rattle.json_text.specs.Json.{Json, object, Members, is_at, skip_blanks, value_at, longest, longestMember}
+use Rattle.json_text.specs.Json.{Json, object, Members, is_at, skip_blanks, value_at, longest, longest_member}
 use Rattle.json_text.specs.Access.{last_named, member_named, number_here, truth_here}
 use Rattle.json_text.specs.declared.Place.{Place}
 use Rattle.json_text.specs.declared.Place.TheVariants.{At, Nowhere}
@@ -122,7 +122,7 @@ no_places = record { user = Nowhere; password = Nowhere; superuser = Nowhere; cl
 pub record MembersTo (line : List ℕ) (at : ℕ) (m : MemberPlaces) (end : ℕ) : Type 0 where
   pub members : Members
   pub reads : value_at 7 line at ≡ some (record { value = object members; next = end })
-  pub short : longestMember members ≤ text_limit
+  pub short : longest_member members ≤ text_limit
   pub are : m ≡ places_in members no_places
 
 abbrev pub WhereMembers : MembersPassed → (MemberPlaces → ℕ → Type 0) → Type 0

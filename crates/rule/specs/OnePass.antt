@@ -1,7 +1,7 @@
 -- What the functions that read a rule in one pass over its line tell, where they answer: the line's elements from a place on, up to its end.
 use Rattle.std.specs.Prelude.{ℕ, ◌-◌, ◌≤◌, ◌≡◌, Bool, false, List, length}
 use Rattle.std.proofs.Math.Option.{Option, some}
-use Rattle.json_text.specs.Json.{Json, array, Elements, no_element, element, Read, skip_blanks, items_at, element_at, value_at, line_value, longest, longestElement}
+use Rattle.json_text.specs.Json.{Json, array, Elements, no_element, element, Read, skip_blanks, items_at, element_at, value_at, line_value, longest, longest_element}
 use Rattle.json_text.specs.Access.{count}
 use Rattle.json_text.specs.declared.Place.{Place}
 use Rattle.json_text.specs.declared.Place.TheVariants.{At, Nowhere}
@@ -45,7 +45,7 @@ pub record TopicsTo (line : List ℕ) (at end : ℕ) : Type 0 where
   pub elements : Elements
   pub topics : List spec.Topic
   pub reads : value_at 7 line at ≡ some (record { value = array elements; next = end })
-  pub short : longestElement elements ≤ text_limit
+  pub short : longest_element elements ≤ text_limit
   pub few : count elements ≤ topics_limit
   pub are : topics_in elements ≡ some topics
 
@@ -58,7 +58,7 @@ pub record Tail (line : List ℕ) (at : ℕ) (holds : Elements → Type 0) : Typ
   pub next : ℕ
   pub reads : elements_from line at ≡ some (record { value = rest; next = next })
   pub ends : skip_blanks line next ≡ length line
-  pub short : longestElement rest ≤ text_limit
+  pub short : longest_element rest ≤ text_limit
   pub fine : holds rest
 
 -- the rule, by what is left of it: the topics; control and topics; users, control and topics; and the whole

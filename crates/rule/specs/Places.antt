@@ -18,7 +18,7 @@ use Rattle.json_text.specs.declared.Truth.{Truth}
 use Rattle.json_text.specs.declared.Truth.TheVariants.{Holds, Unknown}
 use Rattle.rule.specs.Limits.{text_limit, id_limit, topics_limit, lines_limit}
 use Rattle.rule.specs.Rule as spec
-use Rattle.rule.specs.Rule.{Located, Value, is_word, is_template, as_text, as_number, as_bool, as_object, member_named_lem, nth}
+use Rattle.rule.specs.Rule.{Located, Value, is_word, is_template, as_text, as_number, as_bool, as_object, value_named, nth}
 use Rattle.rule.specs.Fill.{fill}
 use Rattle.rule.specs.RuleText.{Result, refused, gives, Fault}
 use Rattle.rule.specs.declared.Word.{Word}
@@ -94,7 +94,7 @@ word_at line at = elim (string_at line at) [ none ↦ Other | some d ↦ word_of
 
 -- the last member with a name of the object at a place
 unfoldable pub member_of : List ℕ → ℕ → List ℕ → Option Value
-member_of line at name = bind (value_of line at) (λ v. bind (as_object v) (member_named_lem name))
+member_of line at name = bind (value_of line at) (λ v. bind (as_object v) (value_named name))
 
 -- a string stands at this place
 unfoldable pub is_text_kind : Kind → Bool

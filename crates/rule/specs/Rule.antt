@@ -91,8 +91,8 @@ nth (suc n) (element at value rest) = nth n rest
 -- the value of the last member with a name
 unfoldable pub named : List ℕ → Members → Option Value → Option Value
 named name no_member found = found
-named name (member at n value_at_lem value rest) found =
-    named name rest (cond (same n name) (some (record { at = value_at_lem; value = value })) found)
+named name (member at n value_start value rest) found =
+    named name rest (cond (same n name) (some (record { at = value_start; value = value })) found)
 
 -- "members of another type are ignored"
 unfoldable pub as_text : Value → Option Located
@@ -118,8 +118,8 @@ as_array v = elim v.value [ null ↦ none | bool b ↦ none | number n ↦ none 
 unfoldable pub as_object : Value → Option Members
 as_object v = elim v.value [ null ↦ none | bool b ↦ none | number n ↦ none | text t ↦ none | array es ↦ none | object ms ↦ some ms ]
 
-unfoldable pub member_named_lem : List ℕ → Members → Option Value
-member_named_lem name ms = named name ms none
+unfoldable pub value_named : List ℕ → Members → Option Value
+value_named name ms = named name ms none
 
 -- "Access: `allow`, `deny`"
 unfoldable pub access_of : Value → Option Bool
@@ -146,13 +146,13 @@ password_of (some v) = Option.map some (as_text v)
 -- are ignored"
 unfoldable pub user_of : Bool → Members → Option (Option User)
 user_of allow ms =
-    elim (bind (member_named_lem (ascii "user") ms) as_text) [
+    elim (bind (value_named (ascii "user") ms) as_text) [
       | none ↦ some none
       | some name ↦
           cond allow
           (Option.map
-          (λ password. some (record { name = name; password = password; superuser = flag (bind (member_named_lem (ascii "superuser") ms) as_bool) }))
-          (password_of (member_named_lem (ascii "password") ms)))
+          (λ password. some (record { name = name; password = password; superuser = flag (bind (value_named (ascii "superuser") ms) as_bool) }))
+          (password_of (value_named (ascii "password") ms)))
           (some (some (record { name = name; password = none; superuser = false })))
     ]
 
@@ -163,9 +163,9 @@ users_in allow ms =
     (λ user.
     record {
       user = user;
-      clientid = bind (member_named_lem (ascii "clientid") ms) as_text;
-      ipaddr = bind (member_named_lem (ascii "ipaddr") ms) as_text;
-      protocol = Option.map (λ n. n % 256) (bind (member_named_lem (ascii "protocol") ms) as_number);
+      clientid = bind (value_named (ascii "clientid") ms) as_text;
+      ipaddr = bind (value_named (ascii "ipaddr") ms) as_text;
+      protocol = Option.map (λ n. n % 256) (bind (value_named (ascii "protocol") ms) as_number);
     })
     (user_of allow ms)
 
@@ -201,7 +201,7 @@ is_template t = contains (ascii "%u") t || contains (ascii "%c") t
 unfoldable pub topic_of : Value → Option Topic
 topic_of v =
     elim (as_object v) [
-      | some ms ↦ Option.map (λ t. record { eq = true; text = t }) (bind (member_named_lem (ascii "eq") ms) as_text)
+      | some ms ↦ Option.map (λ t. record { eq = true; text = t }) (bind (value_named (ascii "eq") ms) as_text)
       | none ↦
           bind (as_text v)
           (λ t. cond (is_template t.text || valid_filter t.text) (some (record { eq = false; text = t })) none)

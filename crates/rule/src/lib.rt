@@ -27,7 +27,7 @@ pub const TOPICS: u64 = 64;
 pub const LINES: usize = 256;
 
 // Why a call is refused.
-#[derive(Drop)]
+#[derive(Clone, Copy)]
 pub enum Refusal {
     TooLong,
     OutOfRange,
@@ -59,7 +59,7 @@ pub fn refusal_number(cause: Refusal) -> u8
     }
 }
 
-#[derive(Drop)]
+#[derive(Clone, Copy)]
 pub enum Control {
     All,
     Connect,
@@ -69,7 +69,7 @@ pub enum Control {
 }
 
 // The words of a rule, in any case of their ASCII letters.
-#[derive(Drop)]
+#[derive(Clone, Copy)]
 pub enum Word {
     Allow,
     Deny,
@@ -95,7 +95,7 @@ pub enum Protocol {
 }
 
 // The listed users, by the places of their strings in the line.
-#[derive(Drop)]
+#[derive(Clone, Copy)]
 pub struct Users {
     pub user: User,
     pub clientid: Place,
@@ -115,47 +115,47 @@ pub struct MemberPlaces {
 }
 
 // The members of an object that was passed over, and the place behind it; or that it was not.
-#[derive(Drop)]
+#[derive(Clone, Copy)]
 pub enum MembersPassed {
     Places(MemberPlaces, usize),
     Unread,
 }
 
 // The users and the place behind them, of a value that was passed over; or that it was not.
-#[derive(Drop)]
+#[derive(Clone, Copy)]
 pub enum UsersPassed {
     Users(Users, usize),
     Unread,
 }
 
 // The access of a line and the place of its users; or that it was not read.
-#[derive(Drop)]
+#[derive(Clone, Copy)]
 pub enum AccessPassed {
     Access(bool, usize),
     Unread,
 }
 
 // The string of a topic under `eq`: its quotes' places, and the place behind the object; or that it was not read.
-#[derive(Drop)]
+#[derive(Clone, Copy)]
 pub enum EqPassed {
     Text(usize, usize, usize),
     Unread,
 }
 
 // The control and the topics behind a line's users; or that they were not read.
-#[derive(Drop)]
+#[derive(Clone, Copy)]
 pub enum Rest {
     Rest(Control, Topics),
     Unread,
 }
 
-#[derive(Drop)]
+#[derive(Clone, Copy)]
 pub enum UsersRead {
     Users(Users),
     Bad,
 }
 
-#[derive(Drop)]
+#[derive(Clone, Copy)]
 pub enum ControlRead {
     Is(Control),
     Bad,
@@ -172,14 +172,14 @@ pub enum Topic {
 }
 
 // The topics of a rule: all, or those of the array at this place.
-#[derive(Drop)]
+#[derive(Clone, Copy)]
 pub enum Topics {
     All,
     Listed(usize),
 }
 
 // A rule, by places in its line.
-#[derive(Drop)]
+#[derive(Clone, Copy)]
 pub struct Rule {
     pub allow: bool,
     pub users: Users,
@@ -187,7 +187,7 @@ pub struct Rule {
     pub topics: Topics,
 }
 
-#[derive(Drop)]
+#[derive(Clone, Copy)]
 pub enum RuleRead {
     Rule(Rule),
     Refused(Refusal),
@@ -200,26 +200,26 @@ pub enum Given {
     Length(usize),
 }
 
-#[derive(Drop)]
+#[derive(Clone, Copy)]
 pub enum Identity {
     Agrees(bool),
     Differs,
 }
 
-#[derive(Drop)]
+#[derive(Clone, Copy)]
 pub enum UserRead {
     User(User),
     Bad,
 }
 
-#[derive(Drop)]
+#[derive(Clone, Copy)]
 pub enum PasswordRead {
     Password(Place),
     Bad,
 }
 
 // The first four elements of a line's array.
-#[derive(Drop)]
+#[derive(Clone, Copy)]
 pub struct Parts {
     pub access: Place,
     pub users: Place,
@@ -228,21 +228,21 @@ pub struct Parts {
 }
 
 // A rule text: no fault, or the first one with its line (0 the whole text, 257 too many lines, else from 1).
-#[derive(Drop)]
+#[derive(Clone, Copy)]
 pub enum TextRead {
     Fine,
     Faulty(Refusal, usize),
 }
 
 // A rule text: the number of its rules, or its first fault, as `TextRead` has it.
-#[derive(Drop)]
+#[derive(Clone, Copy)]
 pub enum RulesCounted {
     Rules(usize),
     Faulty(Refusal, usize),
 }
 
 // A filled template: its length, or that it is longer than the buffer.
-#[derive(Drop)]
+#[derive(Clone, Copy)]
 pub enum Filling {
     Length(usize),
     TooLong,

@@ -25,7 +25,7 @@ pub struct Counts {
     pub notes: u16,
 }
 
-#[derive(Drop)]
+#[derive(Clone, Copy)]
 pub enum CountsRead {
     Counts(Counts),
     OutOfRange,
@@ -41,21 +41,21 @@ pub struct Shape {
     pub notes: usize,
 }
 
-#[derive(Drop)]
+#[derive(Clone, Copy)]
 pub enum ShapeRead {
     LaidOut(Shape),
     Malformed,
 }
 
 // The rule text of a store as laid out: the number of its rules.
-#[derive(Drop)]
+#[derive(Clone, Copy)]
 pub enum RulesRead {
     Rules(usize),
     Malformed,
 }
 
 // What `open` answers: done, or a refusal with its line (0 none, 257 too many lines).
-#[derive(Drop)]
+#[derive(Clone, Copy)]
 pub enum Opened {
     Done,
     Refused(Refusal, usize),

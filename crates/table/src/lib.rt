@@ -19,7 +19,7 @@ const STRETCH: usize = 64;
 const HALF: usize = 32;
 
 // What `push` answers: the row was there, it was added, or there is no room for it.
-#[derive(Drop)]
+#[derive(Clone, Copy)]
 pub enum Pushed {
     Present,
     Added,

@@ -107,7 +107,7 @@ fn takes_level(level: &[u8], checked: &[u8]) -> bool
 
 // A match on its way: where the next level of the filter and of the checked text begins, one past the end where none is left;
 // whether it is decided; and its answer, once it is.
-#[derive(Drop)]
+#[derive(Clone, Copy)]
 pub struct Walk {
     pub filter: usize,
     pub text: usize,

@@ -7,7 +7,7 @@ use crate::tallies::Tallies;
 use std::io::Read;
 
 // What is known between two bytes of the input.
-#[derive(Drop)]
+#[derive(Clone, Copy)]
 pub struct Run {
     // How many bytes of the line that has begun are in the buffer.
     pub length: usize,

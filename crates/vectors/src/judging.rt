@@ -25,7 +25,7 @@ pub enum Kind {
 }
 
 // What the first field of a line names.
-#[derive(Drop)]
+#[derive(Clone, Copy)]
 pub enum Named {
     Of(Kind),
     Nothing,
