@@ -1,6 +1,5 @@
-// The library for C and Rust: what a host calls, under names that begin with `mqtt_acl_`. Of the crates only `vectors` calls it. A lent
-// text, and a store, crosses as its address and its length, a flag as a byte; `mqtt_acl_open` and the events write the store, the questions only
-// read it. Answers on a store are the numbers of specs/Answers.antt, and `unpacking` takes them apart.
+// The library for C and Rust: what a host calls, under names that begin with `mqtt_acl_`; `mqtt_acl_c` exports it. Of the other crates only
+// `vectors` calls it. A text and a store are lent, a flag is a byte; `mqtt_acl_open` and the events write the store, the questions only read it. Answers on a store are the numbers of specs/Answers.antt, and `unpacking` takes them apart.
 #![tactic(auto)]
 
 pub mod clients;

@@ -1,4 +1,4 @@
--- `json::splitting::within_line` meets its contract. The loop's invariant: `within` says whether the line has `i` bytes. The measure is
+-- `json_text::splitting::within_line` meets its contract. The loop's invariant: `within` says whether the line has `i` bytes. The measure is
 -- what is left of the `n`. Assumes nothing.
 use mathlib.Core.Path.{◌≡◌, sym, ap, ◌∙◌}
 use native.Mathlib.Omega.{arith}
