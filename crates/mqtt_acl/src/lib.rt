@@ -1,5 +1,6 @@
 // The library for C and Rust: what a host calls, under names that begin with `mqtt_acl_`; `mqtt_acl_c` exports it. Of the other crates only
-// `vectors` calls it. A text and a store are lent, a flag is a byte; `mqtt_acl_open` and the events write the store, the questions only read it. Answers on a store are the numbers of specs/Answers.antt, and `unpacking` takes them apart.
+// `vectors` calls it. A text and a store are lent, a flag is a byte; `mqtt_acl_open` and the events write the store, the questions only
+// read it. Answers on a store are the numbers of specs/Answers.antt, and `unpacking` takes them apart.
 #![tactic(auto)]
 
 pub mod clients;
