@@ -1,5 +1,5 @@
 -- The marked examples, evaluated. Assumes nothing.
-use mathlib.Core.Option.{bind}
+use Rattle.text.specs.Maybe.{bind}
 use mathlib.Core.Path.{refl}
 use Rattle.text.specs.Text.{same, begins, contains, occurs, replace_from, replace}
 use Rattle.topic.specs.Topic.{extend_first, with_byte, levels, is_only, wildcard_free, valid_levels, valid_filter, metadata, ends, takes_level, takes, dollar_rule, levels_match, levels_if, checked_levels, tree_match, plain_match}

@@ -3,7 +3,7 @@ use Prim.Native.Nat.{ℕ}
 use mathlib.Core.Path.{◌≡◌, refl, sym, ap, ◌∙◌}
 use mathlib.Core.Bool.{Bool, true, false, cond}
 use mathlib.Core.List.{List, [], ◌∷◌, ◌++◌}
-use mathlib.Core.Option.{Option, none, some}
+use Rattle.std.specs.Prelude.{Option, None, Some}
 use Rattle.text.proofs.Laws.{or_split}
 use Rattle.table.specs.Table.{some_row}
 use Rattle.table.proofs.TableLaws.{alike_perm, perm-length}
@@ -64,11 +64,11 @@ reordered-alike v done = alike_refl v
 reordered-alike v (more {x = x} front back apart r) = alike_trans (reordered-alike (step x v) r) (past x front back v apart)
 
 -- views that hold the same rows get the same answers
-alike_answers : (q : Question) {v w : View} → Alike v w → ask_view q (some v) ≡ ask_view q (some w)
+alike_answers : (q : Question) {v w : View} → Alike v w → ask_view q (Some v) ≡ ask_view q (Some w)
 unfolding ask_view decided
 alike_answers q h =
     ap
-    (λ r. elim (question_cause q) as (λ _. Reply) [ none ↦ r | some n ↦ refuses n 0 ])
+    (λ r. elim (question_cause q) as (λ _. Reply) [ None ↦ r | Some n ↦ refuses n 0 ])
     (λ i. decide q (h.text i) (λ p. h.filters p i) (λ p. h.eqs p i))
 
 -- well-formed views that hold the same rows differ in their sequence alone
@@ -83,7 +83,7 @@ alike-permuted a b h =
     }
 
 -- "all other bytes": counts, rule text and how many rows are used decide them
-same_outside : (s t : List ℕ) (v w : View) → view s ≡ some v → view t ≡ some w → Permuted v w → outside_rows s ≡ outside_rows t
+same_outside : (s t : List ℕ) (v w : View) → view s ≡ Some v → view t ≡ Some w → Permuted v w → outside_rows s ≡ outside_rows t
 same_outside s t v w left right p =
     let a = outside_layout v (well_formed-fits v (view-well_formed s v left)) in
     let b = outside_layout w (well_formed-fits w (view-well_formed t w right)) in
@@ -93,7 +93,7 @@ same_outside s t v w left right p =
     ap outside_rows (sym (view-layout s v left)) ∙ (a ∙ (rw (p.counts, p.text, f, e, n) (sym b ∙ ap outside_rows (view-layout t w right))))
 
 -- stores whose views hold the same rows: the rows are the same, and so is every other byte
-same_rows : (s t : List ℕ) (v w : View) → view s ≡ some v → view t ≡ some w → Alike v w → SameRows s t
+same_rows : (s t : List ℕ) (v w : View) → view s ≡ Some v → view t ≡ Some w → Alike v w → SameRows s t
 same_rows s t v w left right alike =
     let a = well_formed_parts v (view-well_formed s v left) in
     let b = well_formed_parts w (view-well_formed t w right) in
@@ -109,7 +109,7 @@ reordering s es fs r = at (view s) refl
     plain q = ap (ask_view q) (view_run es s)
 
     at : (o : Option View) → view s ≡ o → Agree s es fs
-    at none h =
+    at None h =
         let still = run_malformed es s h in
         let same = still ∙ sym (run_malformed fs s h) in
         record {
@@ -119,7 +119,7 @@ reordering s es fs r = at (view s) refl
           machine = view_run es s;
           plain = plain;
         }
-    at (some v) h =
+    at (Some v) h =
         let left = run_effects es s v h in
         let right = run_effects fs s v h in
         let held = reordered-alike v r in

@@ -3,7 +3,7 @@ use Prim.Native.Nat.{ℕ}
 use mathlib.Core.Path.{◌≡◌, refl, sym, ap₂, ◌∙◌}
 use mathlib.Core.Bool.{true, false, ◌||◌, true≢false}
 use mathlib.Core.List.{List}
-use mathlib.Core.Option.{Option, none, some}
+use Rattle.std.specs.Prelude.{Option, None, Some}
 use borrow.Author.Tests.{eqb-true, eqb-false, eq-eqb, ne_eqb}
 use lib.Dec.{eqb}
 use Rattle.text.proofs.Laws.{both_true, or_split, same_true, same_sym}
@@ -15,10 +15,10 @@ use Rattle.acl.specs.Demand3.{session, client, same_client, shares}
 -- sharing goes both ways, and a client that is one of two which differ is not the other
 same_client_sym : (a b : Option (List ℕ)) → same_client a b ≡ same_client b a
 unfolding same_client
-same_client_sym none none = refl
-same_client_sym none (some y) = refl
-same_client_sym (some x) none = refl
-same_client_sym (some x) (some y) = same_sym x y
+same_client_sym None None = refl
+same_client_sym None (Some y) = refl
+same_client_sym (Some x) None = refl
+same_client_sym (Some x) (Some y) = same_sym x y
 
 pub shares_sym : (e f : Event) → shares e f ≡ shares f e
 unfolding shares
@@ -27,11 +27,11 @@ shares_sym e f = ap₂ ◌||◌ (both_true _ _ (flip (session e) (session f)) (f
     flip : (a b : ℕ) → eqb a b ≡ true → eqb b a ≡ true
     flip a b h = eq-eqb b a (sym (eqb-true a b h))
 
-neither : (o : List ℕ) (a b : Option (List ℕ)) → same_client a b ≡ false → same_client (some o) b ≡ true → same_client (some o) a ≡ false
+neither : (o : List ℕ) (a b : Option (List ℕ)) → same_client a b ≡ false → same_client (Some o) b ≡ true → same_client (Some o) a ≡ false
 unfolding same_client
-neither o none b k h = refl
-neither o (some x) none k h = absurd (true≢false (sym h))
-neither o (some x) (some y) k h = rw (same_true o y h) (same_sym y x ∙ k)
+neither o None b k h = refl
+neither o (Some x) None k h = absurd (true≢false (sym h))
+neither o (Some x) (Some y) k h = rw (same_true o y h) (same_sym y x ∙ k)
 
 -- an event's notes and filter rows, by its session number and its client
 noted_session : (e : Event) (n : NoteRow) → noted e n ≡ eqb n.session (session e)
@@ -40,7 +40,7 @@ noted_session (connected m id name) n = refl
 noted_session (disconnected m id) n = refl
 noted_session (ended m) n = refl
 
-owned_client : (e : Event) (r : FilterRow) → owned e r ≡ same_client (some r.owner) (client e)
+owned_client : (e : Event) (r : FilterRow) → owned e r ≡ same_client (Some r.owner) (client e)
 unfolding owned client same_client
 owned_client (connected m id name) r = refl
 owned_client (disconnected m id) r = refl

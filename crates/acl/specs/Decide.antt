@@ -1,7 +1,6 @@
 -- Document 01's example of the program `decide` (Marked examples): two rules, and six lines with their answers, as a claim over the
 -- definitions that the contracts of open, the events and the questions cite.
-use Rattle.std.specs.Prelude.{ℕ, ◌≡◌, true, List, [], ◌∷◌, ◌++◌, length}
-use Rattle.std.proofs.Math.Option.{Option, none, some}
+use Rattle.std.specs.Prelude.{ℕ, ◌≡◌, true, List, [], ◌∷◌, ◌++◌, length, Option, None, Some}
 use Rattle.text.specs.Ascii.{ascii}
 use Rattle.json_text.specs.Lines.{lf}
 use Rattle.rule.specs.Identity.{Client}
@@ -38,7 +37,7 @@ answers (question q ∷ lines) s = replies (ask q s) ∷ answers lines s
 
 -- id "g7", name "bo", no password, no address, protocol 4
 abbrev pub bo : Client
-bo = record { id = ascii "g7"; name = some (ascii "bo"); password = none; address = none; protocol = some 4 }
+bo = record { id = ascii "g7"; name = Some (ascii "bo"); password = None; address = None; protocol = Some 4 }
 
 -- "disconnect flag true"
 abbrev pub publishing : Line
@@ -49,7 +48,7 @@ abbrev pub asked : List Line
 asked =
     question (connect 0 bo)
     ∷ publishing
-    ∷ event (connected 1 (ascii "g7") (some (ascii "bo")))
+    ∷ event (connected 1 (ascii "g7") (Some (ascii "bo")))
     ∷ publishing
     ∷ event (disconnected 1 (ascii "g7"))
     ∷ publishing
@@ -57,12 +56,12 @@ asked =
 
 abbrev pub answered : List Answer
 answered =
-    replies (decides (not_authorized 0 none))
-    ∷ replies (decides (not_authorized 2 (some true)))
-    ∷ says none
+    replies (decides (not_authorized 0 None))
+    ∷ replies (decides (not_authorized 2 (Some true)))
+    ∷ says None
     ∷ replies (decides (publishes 1))
-    ∷ says none
-    ∷ replies (decides (not_authorized 2 (some true)))
+    ∷ says None
+    ∷ replies (decides (not_authorized 2 (Some true)))
     ∷ []
 
 -- whatever the 47,888 bytes held before they were opened

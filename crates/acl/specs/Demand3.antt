@@ -1,10 +1,10 @@
 -- Demand 3, and document 01, "How is 3 read?": what a reader has to believe of the theorem on lists of events. Events, their causes and what
 -- they do stand in the events crate (Event.antt), questions in the questions crate (Decision.antt), what a store means in the store crate
 -- (View.antt): the contracts of the six functions cite the same definitions.
-use Rattle.std.specs.Prelude.{ℕ, ◌<◌, ◌≡◌, Bool, true, false, ◌||◌, cond, eqb, length}
+use Rattle.std.specs.Prelude.{ℕ, ◌<◌, ◌≡◌, Bool, true, false, ◌||◌, cond, eqb, length, Option, None, Some}
 use mathlib.Core.List.{List, [], ◌∷◌, Perm}
-use Rattle.std.proofs.Math.Option.{Option, none, some}
 use Rattle.std.proofs.Math.ListN.{get_elem?}
+use Rattle.std.proofs.Math.Option.{some}
 use Rattle.text.specs.Text.{same}
 use Rattle.store.specs.Store.{View}
 use Rattle.store.specs.Layout.{outside_rows}
@@ -29,8 +29,8 @@ outcomes (e ∷ es) s = (e, refused e s) ∷ outcomes es (after e s)
 -- the plain machine: a view, or none for a store not as laid out. "An event is refused .. exactly if it has a cause .., and then it does
 -- nothing; every other does what Events says"
 unfoldable pub plain_step : Event → Option View → Option View
-plain_step e none = none
-plain_step e (some v) = cond (given (cause e (some v))) (some v) (some (effect e v))
+plain_step e None = None
+plain_step e (Some v) = cond (given (cause e (Some v))) (Some v) (Some (effect e v))
 
 unfoldable pub plain_run : List Event → Option View → Option View
 plain_run [] o = o
@@ -48,15 +48,15 @@ session (disconnected n id) = n
 session (ended n) = n
 
 unfoldable pub client : Event → Option (List ℕ)
-client (connected n id name) = some id
-client (disconnected n id) = some id
-client (ended n) = none
+client (connected n id name) = Some id
+client (disconnected n id) = Some id
+client (ended n) = None
 
 -- "Client ids are shared if equal in bytes"
 unfoldable pub same_client : Option (List ℕ) → Option (List ℕ) → Bool
-same_client none o = false
-same_client (some id) none = false
-same_client (some id) (some id₁) = same id id₁
+same_client None o = false
+same_client (Some id) None = false
+same_client (Some id) (Some id₁) = same id id₁
 
 -- do the two events share a client id or a session number?
 unfoldable pub shares : Event → Event → Bool
@@ -90,8 +90,8 @@ pub record Permuted (v w : View) : Type 0 where
 
 -- "each table's used rows, whole, are the same in both; all other bytes are equal; in a store not as laid out, every byte is"
 pub data SameRows (s t : List ℕ) : Type 0 where
-  malformed : view s ≡ none → s ≡ t → SameRows s t
-  laid_out : (v w : View) → view s ≡ some v → view t ≡ some w → Permuted v w → outside_rows s ≡ outside_rows t → SameRows s t
+  malformed : view s ≡ None → s ≡ t → SameRows s t
+  laid_out : (v w : View) → view s ≡ Some v → view t ≡ Some w → Permuted v w → outside_rows s ≡ outside_rows t → SameRows s t
 
 -- what demand 3 says of two runs from equal stores, of which `s` stands for both: "both stores afterwards hold the same rows .. with
 -- everything else alike byte for byte, and they give every later question the same answer", the plain machine's, which "begins with the

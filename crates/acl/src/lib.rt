@@ -3,11 +3,10 @@
 // specs/Demand3.antt and proofs/Reordering.antt, over the definitions that these contracts cite.
 #![tactic(auto)]
 
-pub use events::EventAnswer;
 pub use events::connecting::connected;
 pub use events::leaving::{disconnected, ended};
 pub use questions::ask::{connect, publish, subscribe};
 pub use questions::{ConnectAnswer, PublishAnswer, SubscribeAnswer};
-pub use rule::{Given, Protocol, Refusal};
-pub use store::Opened;
+pub use rule::agreement::Client;
+pub use rule::{Fault, Refusal};
 pub use store::opening::open;

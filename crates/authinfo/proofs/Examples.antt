@@ -4,7 +4,8 @@ use Prim.Native.String.{String}
 use mathlib.Core.Path.{◌≡◌, refl}
 use mathlib.Core.Bool.{Bool, true, false}
 use mathlib.Core.List.{List, [], ◌∷◌, ◌++◌, map}
-use mathlib.Core.Option.{none, some, bind}
+use Rattle.std.specs.Prelude.{None, Some, Option}
+use Rattle.text.specs.Maybe.{bind}
 use lib.ListN.{replicate}
 use Rattle.text.specs.Ascii.{ascii}
 use Rattle.text.specs.Text.{same, begins, contains, occurs, replace_from, replace}
@@ -19,13 +20,12 @@ use Rattle.authinfo.specs.ClientRule.{permission_word, action_word, text_named, 
 use Rattle.authinfo.specs.Decision.{Client, Question, subscribe, publish, subscribes, publishes, not_authorized, no_decision, Reply, refuses, decides, qos_asked, topic_asked, covers, among, qos_hits, publish_retain, retain_hits, topic_hits, hits, with_rule, read_lines, first_hit, allowance, refusal, by_rule, decision, refuse, on_text, name_over, causes, first_fault, ask}
 use Rattle.authinfo.specs.Expiry as time
 use Rattle.authinfo.specs.Expiry.{over_nanoseconds, below, expiry_over, is_expired, expiry}
-use Rattle.authinfo.specs.declared.Expiry.{Expiry}
-use Rattle.authinfo.specs.declared.Expiry.TheVariants.{Never, At}
+use Rattle.authinfo.specs.declared.Time.{Time}
 
 -- a client asks, by the lines of its rules; or credentials are looked at, at some seconds and nanoseconds
 pub data Case : Type 0 where
   asks : Client → List (List ℕ) → Question → Case
-  expires : Expiry → ℕ → ℕ → Case
+  expires : Option Time → ℕ → ℕ → Case
 
 pub data Outcome : Type 0 where
   reply : Reply → Outcome
@@ -38,17 +38,17 @@ joined (line ∷ rest) = line ++ (10 ∷ joined rest)
 
 abbrev pub outcome : Case → Outcome
 outcome (asks c rules q) = reply (ask c (joined rules) q)
-outcome (expires e seconds nanoseconds) = answer (expiry e seconds nanoseconds)
+outcome (expires e seconds nanoseconds) = answer (expiry e (record { seconds = seconds; nanoseconds = nanoseconds }))
 
 -- a client with the id `g`, without or with a name, and as a superuser
 abbrev pub nameless : Client
-nameless = record { superuser = false; id = ascii "g"; name = none }
+nameless = record { superuser = false; id = ascii "g"; name = None }
 
 abbrev pub called : String → Client
-called name = record { superuser = false; id = ascii "g"; name = some (ascii name) }
+called name = record { superuser = false; id = ascii "g"; name = Some (ascii name) }
 
 abbrev pub super : Client
-super = record { superuser = true; id = ascii "g"; name = none }
+super = record { superuser = true; id = ascii "g"; name = None }
 
 -- a rule with a permission, other members and a topic
 abbrev pub rule : String → String → List ℕ → List ℕ
@@ -117,10 +117,10 @@ examples =
     ∷ (asks nameless (one "allow" "\"retain\":false,") (sends true), undecided)
     ∷ (asks nameless (one "allow" "\"retain\":true,") (sends false), reply (decides (publishes 1)))
     ∷ (asks nameless (one "deny" "\"retain\":true,") (sends false), undecided)
-    ∷ (asks nameless (one "deny" "\"retain\":true,") (sends true), reply (decides (not_authorized 1 (some true))))
+    ∷ (asks nameless (one "deny" "\"retain\":true,") (sends true), reply (decides (not_authorized 1 (Some true))))
     -- "`retain` counts if boolean"; "Subscribe ignores retain"
-    ∷ (asks nameless (one "deny" "\"retain\":1,") (sends false), reply (decides (not_authorized 1 (some true))))
-    ∷ (asks nameless (one "deny" "\"retain\":true,") (to "a"), reply (decides (not_authorized 1 none)))
+    ∷ (asks nameless (one "deny" "\"retain\":1,") (sends false), reply (decides (not_authorized 1 (Some true))))
+    ∷ (asks nameless (one "deny" "\"retain\":true,") (to "a"), reply (decides (not_authorized 1 None)))
     -- "Superuser allows, rule 0, once nothing is refused by number"
     ∷ (asks super (one "deny" "") (to "a"), allowed 0)
     ∷ (asks super (rule "deny" "" (ascii "a") ∷ ascii "{}" ∷ []) (to "a"), refused 6 2)
@@ -132,9 +132,9 @@ examples =
     ∷ (asks nameless (allows "bench/g7/#") (to "bench/g7/$step"), allowed 1)
     ∷ (asks nameless (allows "+") (to "$SYS/a/b"), undecided)
     -- "1 id, name or topic .., text over 32,768 (line 0), then over 256 lines (line 257). 2 QoS over 2"
-    ∷ (asks (record { superuser = true; id = letters 64; name = some (letters 64) }) [] (to "a"), allowed 0)
-    ∷ (asks (record { superuser = true; id = letters 65; name = none }) [] (to "a"), refused 1 0)
-    ∷ (asks (record { superuser = true; id = []; name = some (letters 65) }) [] (to "a"), refused 1 0)
+    ∷ (asks (record { superuser = true; id = letters 64; name = Some (letters 64) }) [] (to "a"), allowed 0)
+    ∷ (asks (record { superuser = true; id = letters 65; name = None }) [] (to "a"), refused 1 0)
+    ∷ (asks (record { superuser = true; id = []; name = Some (letters 65) }) [] (to "a"), refused 1 0)
     ∷ (asks nameless (allows "#") (subscribe 0 (letters 256)), allowed 1)
     ∷ (asks nameless (allows "#") (subscribe 0 (letters 257)), refused 1 0)
     ∷ (asks nameless (letters 32767 ∷ []) (to "a"), refused 1 1)
@@ -143,13 +143,13 @@ examples =
     ∷ (asks nameless (replicate 257 []) (to "a"), refused 1 257)
     ∷ (asks nameless [] (subscribe 3 (ascii "a")), refused 2 0)
     -- "Expired: expiry below now; equal isn't; none never"; "nanoseconds of either time over 999,999,999"
-    ∷ (expires (At 5 7) 5 7, answer (time.decides false))
-    ∷ (expires (At 5 7) 5 8, answer (time.decides true))
-    ∷ (expires (At 5 7) 6 0, answer (time.decides true))
-    ∷ (expires (At 5 7) 4 8, answer (time.decides false))
-    ∷ (expires Never 5 7, answer (time.decides false))
-    ∷ (expires (At 5 1000000000) 5 7, answer (time.refuses 2))
-    ∷ (expires Never 5 1000000000, answer (time.refuses 2))
+    ∷ (expires (Some (record { seconds = 5; nanoseconds = 7 })) 5 7, answer (time.decides false))
+    ∷ (expires (Some (record { seconds = 5; nanoseconds = 7 })) 5 8, answer (time.decides true))
+    ∷ (expires (Some (record { seconds = 5; nanoseconds = 7 })) 6 0, answer (time.decides true))
+    ∷ (expires (Some (record { seconds = 5; nanoseconds = 7 })) 4 8, answer (time.decides false))
+    ∷ (expires None 5 7, answer (time.decides false))
+    ∷ (expires (Some (record { seconds = 5; nanoseconds = 1000000000 })) 5 7, answer (time.refuses 2))
+    ∷ (expires None 5 1000000000, answer (time.refuses 2))
     ∷ []
 
 pub evaluated : map (λ e. outcome e.0) examples ≡ map (λ e. e.1) examples

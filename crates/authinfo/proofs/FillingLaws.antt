@@ -2,59 +2,57 @@
 use Prim.Native.Nat.{ℕ, ◌+◌, ◌*◌, ◌≤◌, ◌<◌}
 use native.Mathlib.Nat.{mul-le-mul_left}
 use native.Mathlib.Omega.{arith}
-use mathlib.Core.Path.{◌≡◌, sym, ap, subst, ◌∙◌}
+use mathlib.Core.Path.{◌≡◌, refl, sym, ap, subst, ◌∙◌}
 use mathlib.Core.Bool.{Bool, true, false}
 use mathlib.Core.List.{List}
-use mathlib.Core.Option.{Option, none, some}
-use borrow.Author.Tests.{ltb-false, lt-ltb, le-ltb, eq-eqb, ne_eqb}
+use Rattle.std.specs.Prelude.{Option, None, Some, Result, Ok, Err}
+use borrow.Author.Tests.{ltb-false, lt-ltb, le-ltb, le-leb, eq-eqb, ne_eqb}
+use lib.Dec.{leb}
 use lib.ListN.{length, take, drop}
 use Rattle.text.specs.Ascii.{ascii}
 use Rattle.text.specs.Text.{same, begins, contains, replace, fitted, written}
-use Rattle.text.specs.declared.Replaced.{Replaced}
-use Rattle.text.specs.declared.Replaced.TheVariants.{Length}
 use Rattle.text.proofs.Laws.{times, times_fit, replace-length, length_told, written-take}
 use Rattle.topic.specs.Topic.{valid_filter, plain_match}
 use Rattle.json_text.specs.Strings.{Decoded}
+use Rattle.json_text.specs.Access.{copied}
+use Rattle.json_text.specs.declared.DecodeError.{DecodeError}
 use Rattle.rule.specs.Limits.{text_limit, id_limit}
-use Rattle.rule.specs.Places.{given}
-use Rattle.rule.specs.declared.Given.{Given}
-use Rattle.rule.specs.declared.Given.TheVariants.{Absent, Length as GivenLength}
+use Rattle.authinfo.specs.Given.{given}
 use Rattle.rule.specs.declared.Refusal.TheVariants.{NotARule, FilledTooLong}
 use Rattle.rule.proofs.DecodeLaws.{written-length}
 use Rattle.authinfo.specs.ClientRule.{username, clientid, put_if, fill_for, filled_topic, topic_of}
 use Rattle.authinfo.specs.Decision.{topic_hits, name_over}
 use Rattle.authinfo.specs.Places.{Short, ShortAt, id_put, taken_by, filled_for, topic_takes, text_of}
-use Rattle.authinfo.specs.declared.TopicRead.TheVariants.{Takes, Refused}
 
 -- ---- a filled text
 
 module _ (topic filled : List ℕ) (eq : Bool) where
-  pub taken_long : text_limit < length filled → taken_by topic (filled_topic eq (some filled)) ≡ Refused FilledTooLong
+  pub taken_long : text_limit < length filled → taken_by topic (filled_topic eq (Some filled)) ≡ Err FilledTooLong
   unfolding taken_by filled_topic
   taken_long h = rw (lt-ltb text_limit (length filled) h)
 
-  pub taken_eq : length filled ≤ text_limit → eq ≡ true → taken_by topic (filled_topic eq (some filled)) ≡ Takes (same filled topic)
+  pub taken_eq : length filled ≤ text_limit → eq ≡ true → taken_by topic (filled_topic eq (Some filled)) ≡ Ok (same filled topic)
   unfolding taken_by filled_topic topic_hits
   taken_eq h e = rw (le-ltb text_limit (length filled) h, e)
 
-  pub taken_none : length filled ≤ text_limit → eq ≡ false → valid_filter filled ≡ false → taken_by topic (filled_topic eq (some filled)) ≡ Refused NotARule
+  pub taken_none : length filled ≤ text_limit → eq ≡ false → valid_filter filled ≡ false → taken_by topic (filled_topic eq (Some filled)) ≡ Err NotARule
   unfolding taken_by filled_topic topic_hits
   taken_none h e f = rw (le-ltb text_limit (length filled) h, e, f)
 
-  pub taken_filter : length filled ≤ text_limit → eq ≡ false → valid_filter filled ≡ true → taken_by topic (filled_topic eq (some filled)) ≡ Takes (plain_match filled topic)
+  pub taken_filter : length filled ≤ text_limit → eq ≡ false → valid_filter filled ≡ true → taken_by topic (filled_topic eq (Some filled)) ≡ Ok (plain_match filled topic)
   unfolding taken_by filled_topic topic_hits
   taken_filter h e f = rw (le-ltb text_limit (length filled) h, e, f)
 
 -- ---- a text put into a buffer that it fits
 
-module _ (result before : List ℕ) {after : List ℕ} {answer : Replaced}
+module _ (result before : List ℕ) {after : List ℕ} {answer : Option ℕ}
     (told : answer ≡ fitted result (length before)) (wrote : after ≡ written result before) where
-  pub put_room : {n : ℕ} → answer ≡ Length n → n ≤ length after
+  pub put_room : {n : ℕ} → answer ≡ Some n → n ≤ length after
   put_room {n} e =
       let fits = length_told {n = n} result (length before) told e in
       rw wrote (omega (arith, written-length result before))
 
-  pub put_front : {n : ℕ} → answer ≡ Length n → take n after ≡ result
+  pub put_front : {n : ℕ} → answer ≡ Some n → take n after ≡ result
   put_front {n} e =
       let fits = length_told {n = n} result (length before) told e in
       rw (fits.0, wrote) (written-take result before (omega arith))
@@ -68,9 +66,14 @@ between_fits name t h k =
     omega arith
 
 -- a name that is given isn't over 64 bytes
-pub name_fits : {name : Given} (names : List ℕ) {n : ℕ} {t : List ℕ} → name_over (given name names) ≡ false → name ≡ GivenLength n → some t ≡ given (GivenLength n) names → length t ≤ id_limit
-unfolding name_over
-name_fits {name} names {n} {t} h e f = ltb-false id_limit (length t) (ap name_over (f ∙ ap (λ (g : Given). given g names) (sym e)) ∙ h)
+pub name_fits : {name : Option ℕ} (names : List ℕ) {n : ℕ} → name_over (given name names) ≡ false → name ≡ Some n → length (take n names) ≤ id_limit
+unfolding name_over given
+name_fits names {n} h e = ltb-false id_limit (length (take n names)) (ap (λ (g : Option ℕ). name_over (given g names)) (sym e) ∙ h)
+
+-- and is the part of the slice that its length tells
+pub named_part : {name : Option ℕ} (names : List ℕ) {n : ℕ} {part : List ℕ} → name ≡ Some n → part ≡ take n names → Some part ≡ given name names
+unfolding given
+named_part names {n} e f = ap Some f ∙ ap (λ (g : Option ℕ). given g names) (sym e)
 
 -- ---- the configured text, filled
 
@@ -84,53 +87,59 @@ unfolding id_put
 id_held id t e = rw e
 
 -- equal texts take the same topics
-pub taken_same : (topic : List ℕ) (eq : Bool) {s t : List ℕ} → s ≡ t → taken_by topic (filled_topic eq (some s)) ≡ taken_by topic (filled_topic eq (some t))
-taken_same topic eq e = ap (λ (u : List ℕ). taken_by topic (filled_topic eq (some u))) e
+pub taken_same : (topic : List ℕ) (eq : Bool) {s t : List ℕ} → s ≡ t → taken_by topic (filled_topic eq (Some s)) ≡ taken_by topic (filled_topic eq (Some t))
+taken_same topic eq e = ap (λ (u : List ℕ). taken_by topic (filled_topic eq (Some u))) e
 
 module _ (topic id : List ℕ) (name : Option (List ℕ)) (eq : Bool) (t : List ℕ) where
   pub filled_plain : {held : Bool} → held ≡ contains clientid t → contains username t ≡ false
-      → taken_by topic (filled_topic eq (some (id_put held id t))) ≡ taken_by topic (filled_topic eq (fill_for id name t))
+      → taken_by topic (filled_topic eq (Some (id_put held id t))) ≡ taken_by topic (filled_topic eq (fill_for id name t))
   unfolding fill_for put_if id_put
   filled_plain h e = rw (e, h)
 
-  pub filled_nobody : contains username t ≡ true → name ≡ none → taken_by topic (filled_topic eq (fill_for id name t)) ≡ Refused NotARule
+  pub filled_nobody : contains username t ≡ true → name ≡ None → taken_by topic (filled_topic eq (fill_for id name t)) ≡ Err NotARule
   unfolding fill_for filled_topic taken_by
   filled_nobody e f = rw (e, f)
 
-  pub filled_named : {held : Bool} {n s : List ℕ} → held ≡ contains clientid t → contains username t ≡ true → some n ≡ name → s ≡ replace username n t
-      → taken_by topic (filled_topic eq (some (id_put held id s))) ≡ taken_by topic (filled_topic eq (fill_for id name t))
+  pub filled_named : {held : Bool} {n s : List ℕ} → held ≡ contains clientid t → contains username t ≡ true → Some n ≡ name → s ≡ replace username n t
+      → taken_by topic (filled_topic eq (Some (id_put held id s))) ≡ taken_by topic (filled_topic eq (fill_for id name t))
   unfolding fill_for put_if id_put
   filled_named h e f g = rw (e, h, ← f, g)
 
-pub absent : {name : Given} (names : List ℕ) → name ≡ Absent → given name names ≡ none
+pub absent : {name : Option ℕ} (names : List ℕ) → name ≡ None → given name names ≡ None
 unfolding given
 absent names e = rw e
 
 -- ---- a configured topic
 
 module _ (topic id : List ℕ) (name : Option (List ℕ)) (t : List ℕ) where
-  pub topic_eq : begins (ascii "eq ") t ≡ true → topic_takes topic id name (some t) ≡ taken_by topic (filled_topic true (fill_for id name (drop 3 t)))
+  pub topic_eq : begins (ascii "eq ") t ≡ true → topic_takes topic id name (Some t) ≡ taken_by topic (filled_topic true (fill_for id name (drop 3 t)))
   unfolding topic_takes filled_for topic_of
   topic_eq e = rw e
 
-  pub topic_empty : begins (ascii "eq ") t ≡ false → length t ≡ 0 → topic_takes topic id name (some t) ≡ Refused NotARule
+  pub topic_empty : begins (ascii "eq ") t ≡ false → length t ≡ 0 → topic_takes topic id name (Some t) ≡ Err NotARule
   unfolding topic_takes filled_for topic_of taken_by
   topic_empty e f = rw (e, eq-eqb (length t) 0 f)
 
-  pub topic_filter : begins (ascii "eq ") t ≡ false → (length t ≡ 0 → ⊥) → topic_takes topic id name (some t) ≡ taken_by topic (filled_topic false (fill_for id name t))
+  pub topic_filter : begins (ascii "eq ") t ≡ false → (length t ≡ 0 → ⊥) → topic_takes topic id name (Some t) ≡ taken_by topic (filled_topic false (fill_for id name t))
   unfolding topic_takes filled_for topic_of
   topic_filter e f = rw (e, ne_eqb (length t) 0 f)
 
 -- ---- the string at a place
 
 module _ (o : Option Decoded) {d : Decoded} where
-  pub short_there : o ≡ some d → ShortAt o → Short d.text
+  pub short_there : o ≡ Some d → ShortAt o → Short d.text
   short_there e h = subst ShortAt e h
 
-  pub text_there : o ≡ some d → text_of o ≡ some d.text
+  pub text_there : o ≡ Some d → text_of o ≡ Some d.text
   unfolding text_of
   text_there e = rw e
 
-pub no_topic : (topic id : List ℕ) (name : Option (List ℕ)) (o : Option Decoded) → o ≡ none → topic_takes topic id name (text_of o) ≡ Refused NotARule
-unfolding text_of topic_takes
-no_topic topic id name o e = rw e
+-- a string of at most 256 bytes that isn't decoded into as many is none
+pub no_topic : (topic id : List ℕ) (name : Option (List ℕ)) (o : Option Decoded) {r : Result ℕ DecodeError} {e : DecodeError} → r ≡ copied 256 o → r ≡ Err e → ShortAt o
+    → topic_takes topic id name (text_of o) ≡ Err NotARule
+unfolding copied text_of topic_takes
+no_topic topic id name None h k s = refl
+no_topic topic id name (Some d) {r} {e} h k s =
+    let fits : leb (length d.text) 256 ≡ true = le-leb (length d.text) 256 s in
+    let told : r ≡ Ok (length d.text) = h ∙ rw fits in
+    let z : ◌≡◌ {A = ℕ} 0 1 = cc in absurd (omega arith)

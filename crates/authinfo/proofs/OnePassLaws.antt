@@ -4,7 +4,7 @@ use native.Mathlib.Omega.{arith}
 use mathlib.Core.Path.{◌≡◌, refl, sym, ap, ◌∙◌}
 use mathlib.Core.Bool.{Bool, true, false, cond}
 use mathlib.Core.List.{List}
-use mathlib.Core.Option.{some}
+use Rattle.std.specs.Prelude.{Some, Option, None}
 use lib.ListN.{length, take, drop, length-take}
 use Rattle.text.specs.Ascii.{ascii}
 use Rattle.text.specs.Text.{same}
@@ -13,8 +13,6 @@ use Rattle.json_text.specs.Json.{text, object, Members, is_at, skip_blanks, sepa
 use Rattle.json_text.specs.Access.{value_here, string_is, last_named, named_in, member_named}
 use Rattle.json_text.specs.Plain.{plain_text}
 use Rattle.json_text.specs.declared.Separator.TheVariants.{Close, Comma}
-use Rattle.json_text.specs.declared.Place.{Place}
-use Rattle.json_text.specs.declared.Place.TheVariants.{At, Nowhere}
 use Rattle.json_text.proofs.AccessLaws.{named_is}
 use Rattle.json_text.proofs.ElementLaws.{line_read, object-read}
 use Rattle.json_text.proofs.PlainLaws.{Plain, plain_value}
@@ -23,41 +21,16 @@ use Rattle.rule.specs.Limits.{text_limit}
 use Rattle.rule.specs.OnePass.{PartTo}
 use Rattle.rule.proofs.OnePassLaws.{MemberAt, MembersFrom, last_member, next_member}
 use Rattle.authinfo.specs.Places.{places_at, no_places, permission_here, action_here}
-use Rattle.authinfo.specs.OnePass.{permission_of, action_of, quote_at, parts_at, no_parts, with_member, LineTo}
+use Rattle.authinfo.specs.OnePass.{quote_at, parts_at, no_parts, with_member, LineTo}
 use Rattle.authinfo.specs.declared.RulePlaces.{RulePlaces}
 use Rattle.authinfo.specs.declared.RuleParts.{RuleParts}
-use Rattle.authinfo.specs.declared.Action.TheVariants as action
-use Rattle.authinfo.specs.declared.PermissionRead.{PermissionRead}
-use Rattle.authinfo.specs.declared.ActionRead.{ActionRead}
-use Rattle.authinfo.specs.declared.PermissionRead.TheVariants.{Is as PermissionIs, Bad as BadPermission}
-use Rattle.authinfo.specs.declared.ActionRead.TheVariants.{Is as ActionIs, Bad as BadAction}
-
--- ---- words
-
--- by the comparisons that are made
-pub permission_word : (t : List ℕ) {allow deny : Bool} → same t (ascii "allow") ≡ allow → same t (ascii "deny") ≡ deny
-    → permission_of t ≡ cond allow (PermissionIs true) (cond deny (PermissionIs false) BadPermission)
-unfolding permission_of
-permission_word t e f = λ i. cond (e i) (PermissionIs true) (cond (f i) (PermissionIs false) BadPermission)
-
-pub action_word : (t : List ℕ) {all publish subscribe : Bool} → same t (ascii "all") ≡ all → same t (ascii "publish") ≡ publish → same t (ascii "subscribe") ≡ subscribe
-    → action_of t ≡ cond all (ActionIs action.All) (cond publish (ActionIs action.Publish) (cond subscribe (ActionIs action.Subscribe) BadAction))
-unfolding action_of
-action_word t e f g = λ i. cond (e i) (ActionIs action.All) (cond (f i) (ActionIs action.Publish) (cond (g i) (ActionIs action.Subscribe) BadAction))
+use Rattle.authinfo.specs.declared.Action.{Action}
 
 -- a plain string is compared as it stands
 module _ (line : List ℕ) (at : ℕ) {end : ℕ} (p : Plain line at end) where
-  plain_is : (wanted : List ℕ) → same (take (end - (at + 1)) (drop (at + 1) line)) wanted ≡ string_is line at wanted
+  pub plain_is : (wanted : List ℕ) → same (take (end - (at + 1)) (drop (at + 1) line)) wanted ≡ string_is line at wanted
   unfolding is_rest
   plain_is wanted = sym (is_begins line at wanted ∙ ap (is_rest wanted) p.string)
-
-  pub permission_plain : permission_of (take (end - (at + 1)) (drop (at + 1) line)) ≡ permission_here line (At at)
-  unfolding permission_here
-  permission_plain = permission_word (take (end - (at + 1)) (drop (at + 1) line)) (plain_is (ascii "allow")) (plain_is (ascii "deny"))
-
-  pub action_plain : action_of (take (end - (at + 1)) (drop (at + 1) line)) ≡ action_here line (At at)
-  unfolding action_here
-  action_plain = action_word (take (end - (at + 1)) (drop (at + 1) line)) (plain_is (ascii "all")) (plain_is (ascii "publish")) (plain_is (ascii "subscribe"))
 
   -- and passed over
   pub plain_part : (before : ℕ) → before ≤ text_limit → end - (at + 1) ≤ text_limit → PartTo 7 line at before (end + 1)
@@ -74,23 +47,23 @@ module _ (line : List ℕ) (at : ℕ) {end : ℕ} (p : Plain line at end) where
 
 -- the parts with a member, by its name
 module _ (line name : List ℕ) (p : ℕ) (f : RuleParts) where
-  pub is_permission : {x : PermissionRead} → same name (ascii "permission") ≡ true → x ≡ permission_here line (At p) → ◌≡◌ {A = RuleParts} (record { permission = x; action = f.action; qos = f.qos; retain = f.retain; topic = f.topic; quote = f.quote }) (with_member line name p f)
+  pub is_permission : {x : Option Bool} → same name (ascii "permission") ≡ true → x ≡ permission_here line (Some p) → ◌≡◌ {A = RuleParts} (record { permission = x; action = f.action; qos = f.qos; retain = f.retain; topic = f.topic; quote = f.quote }) (with_member line name p f)
   unfolding with_member same
   is_permission e h = (λ i. record { permission = h i; action = f.action; qos = f.qos; retain = f.retain; topic = f.topic; quote = f.quote }) ∙ sym (ap (λ (n : List ℕ). with_member line n p f) (same_true name (ascii "permission") e))
 
-  pub is_action : {x : ActionRead} → same name (ascii "action") ≡ true → x ≡ action_here line (At p) → ◌≡◌ {A = RuleParts} (record { permission = f.permission; action = x; qos = f.qos; retain = f.retain; topic = f.topic; quote = f.quote }) (with_member line name p f)
+  pub is_action : {x : Option Action} → same name (ascii "action") ≡ true → x ≡ action_here line (Some p) → ◌≡◌ {A = RuleParts} (record { permission = f.permission; action = x; qos = f.qos; retain = f.retain; topic = f.topic; quote = f.quote }) (with_member line name p f)
   unfolding with_member same
   is_action e h = (λ i. record { permission = f.permission; action = h i; qos = f.qos; retain = f.retain; topic = f.topic; quote = f.quote }) ∙ sym (ap (λ (n : List ℕ). with_member line n p f) (same_true name (ascii "action") e))
 
-  pub is_topic : {q : Place} → same name (ascii "topic") ≡ true → q ≡ plain_text line p → ◌≡◌ {A = RuleParts} (record { permission = f.permission; action = f.action; qos = f.qos; retain = f.retain; topic = At p; quote = q }) (with_member line name p f)
+  pub is_topic : {q : Option ℕ} → same name (ascii "topic") ≡ true → q ≡ plain_text line p → ◌≡◌ {A = RuleParts} (record { permission = f.permission; action = f.action; qos = f.qos; retain = f.retain; topic = Some p; quote = q }) (with_member line name p f)
   unfolding with_member same
-  is_topic e h = (λ i. record { permission = f.permission; action = f.action; qos = f.qos; retain = f.retain; topic = At p; quote = h i }) ∙ sym (ap (λ (n : List ℕ). with_member line n p f) (same_true name (ascii "topic") e))
+  is_topic e h = (λ i. record { permission = f.permission; action = f.action; qos = f.qos; retain = f.retain; topic = Some p; quote = h i }) ∙ sym (ap (λ (n : List ℕ). with_member line n p f) (same_true name (ascii "topic") e))
 
-  pub is_qos : same name (ascii "qos") ≡ true → ◌≡◌ {A = RuleParts} (record { permission = f.permission; action = f.action; qos = At p; retain = f.retain; topic = f.topic; quote = f.quote }) (with_member line name p f)
+  pub is_qos : same name (ascii "qos") ≡ true → ◌≡◌ {A = RuleParts} (record { permission = f.permission; action = f.action; qos = Some p; retain = f.retain; topic = f.topic; quote = f.quote }) (with_member line name p f)
   unfolding with_member same
   is_qos e = sym (ap (λ (n : List ℕ). with_member line n p f) (same_true name (ascii "qos") e))
 
-  pub is_retain : same name (ascii "retain") ≡ true → ◌≡◌ {A = RuleParts} (record { permission = f.permission; action = f.action; qos = f.qos; retain = At p; topic = f.topic; quote = f.quote }) (with_member line name p f)
+  pub is_retain : same name (ascii "retain") ≡ true → ◌≡◌ {A = RuleParts} (record { permission = f.permission; action = f.action; qos = f.qos; retain = Some p; topic = f.topic; quote = f.quote }) (with_member line name p f)
   unfolding with_member same
   is_retain e = sym (ap (λ (n : List ℕ). with_member line n p f) (same_true name (ascii "retain") e))
 
@@ -103,15 +76,15 @@ module _ (line name : List ℕ) (p : ℕ) (f : RuleParts) where
 unfoldable pub with_named : List ℕ → ℕ → RulePlaces → RulePlaces
 with_named name p m =
     record {
-      permission = cond (same name (ascii "permission")) (At p) m.permission;
-      action = cond (same name (ascii "action")) (At p) m.action;
-      qos = cond (same name (ascii "qos")) (At p) m.qos;
-      retain = cond (same name (ascii "retain")) (At p) m.retain;
-      topic = cond (same name (ascii "topic")) (At p) m.topic;
+      permission = cond (same name (ascii "permission")) (Some p) m.permission;
+      action = cond (same name (ascii "action")) (Some p) m.action;
+      qos = cond (same name (ascii "qos")) (Some p) m.qos;
+      retain = cond (same name (ascii "retain")) (Some p) m.retain;
+      topic = cond (same name (ascii "topic")) (Some p) m.topic;
     }
 
 -- what the chosen place tells is chosen as the place is
-chosen : {A : Type 0} (f : Place → A) (b : Bool) (p : ℕ) (before : Place) → cond b (f (At p)) (f before) ≡ f (cond b (At p) before)
+chosen : {A : Type 0} (f : Option ℕ → A) (b : Bool) (p : ℕ) (before : Option ℕ) → cond b (f (Some p)) (f before) ≡ f (cond b (Some p) before)
 chosen f true p before = refl
 chosen f false p before = refl
 
@@ -122,9 +95,9 @@ member_parts line name p m =
     record {
       permission = chosen (permission_here line) (same name (ascii "permission")) p m.permission i;
       action = chosen (action_here line) (same name (ascii "action")) p m.action i;
-      qos = cond (same name (ascii "qos")) (At p) m.qos;
-      retain = cond (same name (ascii "retain")) (At p) m.retain;
-      topic = cond (same name (ascii "topic")) (At p) m.topic;
+      qos = cond (same name (ascii "qos")) (Some p) m.qos;
+      retain = cond (same name (ascii "retain")) (Some p) m.retain;
+      topic = cond (same name (ascii "topic")) (Some p) m.topic;
       quote = chosen (quote_at line) (same name (ascii "topic")) p m.topic i;
     }
 
@@ -141,10 +114,10 @@ places_in ms m =
       topic = last_named (ascii "topic") ms m.topic;
     }
 
-places_in_lem : (line : List ℕ) (at : ℕ) {ms : Members} {next : ℕ} → value_here line at ≡ some (record { value = object ms; next = next }) → places_in ms no_places ≡ places_at line at
+places_in_lem : (line : List ℕ) (at : ℕ) {ms : Members} {next : ℕ} → value_here line at ≡ Some (record { value = object ms; next = next }) → places_in ms no_places ≡ places_at line at
 unfolding places_in places_at named_in
 places_in_lem line at {ms} e =
-    let f : (name : List ℕ) → last_named name ms Nowhere ≡ member_named name line at = λ name. sym (named_is name line at e) in
+    let f : (name : List ℕ) → last_named name ms None ≡ member_named name line at = λ name. sym (named_is name line at e) in
     λ i.
     record {
       permission = f (ascii "permission") i;
@@ -157,7 +130,7 @@ places_in_lem line at {ms} e =
 -- an object that ends before a place, no string of which is over the limit, and the places of its members
 pub record ObjectTo (line : List ℕ) (at : ℕ) (m : RulePlaces) (end : ℕ) : Type 0 where
   pub members : Members
-  pub reads : value_here line at ≡ some (record { value = object members; next = end })
+  pub reads : value_here line at ≡ Some (record { value = object members; next = end })
   pub short : longest_member members ≤ text_limit
   pub are : m ≡ places_in members no_places
 
@@ -182,12 +155,12 @@ module _ (line : List ℕ) {at : ℕ} {before found : RuleParts} {i : ℕ} {name
   with_one : found ≡ parts_at line (with_named name p s.places)
   with_one = e ∙ (ap (with_member line name p) s.tells ∙ member_parts line name p s.places)
 
-  pub passed_more : {next : ℕ} → separator_at 0x7d line end ≡ Comma next → Passed line at found next
+  pub passed_more : {next : ℕ} → separator_at 0x7d line end ≡ (Some (Comma next)) → Passed line at found next
   unfolding places_in with_named last_named
   passed_more q = record { places = with_named name p s.places; tells = with_one; onward = λ rest last f. s.onward _ last (next_member line m q f) }
 
   -- a line whose object was passed over
-  pub line_passed : {next last : ℕ} → at ≡ skip_blanks line 0 → separator_at 0x7d line end ≡ Close next → last ≡ skip_blanks line next → last ≡ length line → LineTo line found
+  pub line_passed : {next last : ℕ} → at ≡ skip_blanks line 0 → separator_at 0x7d line end ≡ (Some (Close next)) → last ≡ skip_blanks line next → last ≡ length line → LineTo line found
   unfolding longest places_in with_named last_named
   line_passed {next} f q b l =
       let o : ObjectTo line at (with_named name p s.places) next = s.onward _ _ (last_member line m q) in

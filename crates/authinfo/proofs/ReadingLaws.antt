@@ -1,156 +1,112 @@
 -- Laws of what a line's rule says, each by the tests that its function makes, and that it is what the rule of the line's value says. Assumes
 -- nothing.
-use Prim.Native.Nat.{ℕ, zero, suc, ◌+◌, ◌-◌, ◌%◌, ◌≤◌, ◌<◌}
+use Prim.Native.Nat.{ℕ, ◌+◌, ◌%◌, ◌≤◌, ◌<◌}
 use native.Mathlib.Omega.{arith}
 use mathlib.Core.Path.{◌≡◌, refl, sym, ap, subst, ◌∙◌}
 use mathlib.Core.Bool.{Bool, true, false, ◌&&◌, ◌||◌, cond}
 use mathlib.Core.List.{List, [], ◌∷◌}
-use mathlib.Core.Option.{Option, none, some, bind, map}
+use Rattle.std.specs.Prelude.{Option, None, Some, Ok, Err, Result}
+use Rattle.std.specs.Option.{option_map, ok_or}
+use Rattle.std.specs.Result.{IsErrAnd, MatchResult}
+use Rattle.std.proofs.lemmas.Result.{err_from_is_err_and}
+use Rattle.text.specs.Maybe.{bind}
 use lib.Dec.{eqb, leb}
 use lib.ListN.{length}
 use borrow.Author.Tests.{lt-ltb, le-ltb}
 use Rattle.text.specs.Ascii.{ascii}
 use Rattle.json_text.specs.Json.{Json, null, bool, number, text, array, object, Elements, no_element, element, Members, skip_blanks, depth_limit, line_value, longest, longest_member}
-use Rattle.json_text.specs.Access.{checked, value_here, string_is, number_here, kind_at, first_item, next_item, named_in, member_named}
-use Rattle.json_text.specs.declared.Checked.TheVariants.{Invalid, Valid}
+use Rattle.json_text.specs.Access.{checked, value_here, number_here, kind_at, named_in, member_named}
 use Rattle.json_text.specs.declared.Kind.{Kind}
 use Rattle.json_text.specs.declared.Kind.TheVariants.{Number, Text, Array, Object, Word, Blank, Other}
-use Rattle.json_text.specs.declared.Place.{Place}
-use Rattle.json_text.specs.declared.Place.TheVariants.{At, Nowhere}
-use Rattle.json_text.specs.declared.Found.TheVariants.{Is as FoundIs, Absent}
-use Rattle.json_text.specs.declared.Truth.{Truth}
-use Rattle.json_text.specs.declared.Truth.TheVariants.{Holds}
-use Rattle.json_text.proofs.ValueLaws.{value_next}
 use Rattle.json_text.proofs.AccessSteps.{kind_is}
-use Rattle.json_text.proofs.AccessLaws.{ElementsIn, element_place, array_is, kind_is_lem, named_is, number_of, number_is, line_is}
+use Rattle.json_text.proofs.PlaceLaws.{element_places, array_places}
+use Rattle.json_text.proofs.AccessLaws.{ElementsIn, array_is, kind_is_lem, named_is, number_of, number_is, line_is}
 use Rattle.rule.specs.Limits.{line_limit, text_limit}
 use Rattle.rule.specs.Rule.{Value, as_number, as_array, value_named}
-use Rattle.rule.specs.RuleText.{Result, refused, gives}
 use Rattle.rule.specs.Members.{truth_from}
 use Rattle.rule.specs.declared.Refusal.TheVariants.{TooLong, NotJson, NotARule}
 use Rattle.authinfo.specs.ClientRule as rule
 use Rattle.authinfo.specs.ClientRule.{text_named, qos_level, qos_in, qos_value, qos_of, rule_in, configured, fill_for, filled_topic, with_topic, filled_rule, rule_from, read_line}
-use Rattle.authinfo.specs.Decision.{Question, qos_asked, topic_asked, covers, among, qos_hits, publish_retain, retain_hits, topic_hits, hits}
-use Rattle.authinfo.specs.Places.{question_of, qos_of_asked, places_at, permission_here, action_here, with_level, level_here, levels_up_to, levels_from, one_level, qos_here, flag_of, takes_kind, taken_by, filled_for, ShortTopic, verdict, by_topic, topic_from, with_qos, with_action, with_permission, rule_says, line_says}
-use Rattle.authinfo.specs.OnePass.{quote_at, parts_at, parts_say, LineTo, WhereLine}
+use Rattle.authinfo.specs.Decision.{Question, qos_asked, topic_asked, covers, among, qos_hits, retain_hits, topic_hits, hits}
+use Rattle.authinfo.specs.Places.{question_of, qos_of_asked, places_at, permission_here, action_here, with_level, level_here, levels_at, levels_from, one_level, qos_here, takes_kind, taken_by, filled_for, ShortTopic, verdict, by_topic, topic_from, with_qos, with_action, with_permission, rule_says, line_says}
+use Rattle.authinfo.specs.OnePass.{quote_at, parts_at, parts_say, LineTo}
 use Rattle.authinfo.specs.declared.RuleParts.{RuleParts}
-use Rattle.authinfo.specs.declared.LinePassed.{LinePassed}
-use Rattle.authinfo.specs.declared.LinePassed.TheVariants.{Parts}
 use Rattle.authinfo.specs.declared.Action.{Action}
 use Rattle.authinfo.specs.declared.Action.TheVariants as action
 use Rattle.authinfo.specs.declared.Asked.{Asked}
 use Rattle.authinfo.specs.declared.Asked.TheVariants as asked
 use Rattle.authinfo.specs.declared.RulePlaces.{RulePlaces}
-use Rattle.authinfo.specs.declared.PermissionRead.{PermissionRead}
-use Rattle.authinfo.specs.declared.PermissionRead.TheVariants.{Is as PermissionIs, Bad as BadPermission}
-use Rattle.authinfo.specs.declared.ActionRead.{ActionRead}
-use Rattle.authinfo.specs.declared.ActionRead.TheVariants.{Is as ActionIs, Bad as BadAction}
-use Rattle.authinfo.specs.declared.QosRead.{QosRead}
-use Rattle.authinfo.specs.declared.QosRead.TheVariants.{Takes as QosTakes, Bad as BadQos}
-use Rattle.authinfo.specs.declared.TopicRead.{TopicRead}
-use Rattle.authinfo.specs.declared.LineRead.TheVariants.{Says, Refused}
-use Rattle.authinfo.proofs.MemberLaws.{Stands, member_stands, permission_answer, action_answer, permission_stands, action_stands, retain_stands, topic_stands, short_stands}
+use Rattle.authinfo.proofs.MemberLaws.{Stands, member_stands, permission_stands, action_stands, retain_stands, topic_stands, short_stands}
+use Rattle.rule.specs.declared.Refusal.{Refusal}
 
--- ---- words
+-- ---- what a `?` passes on
 
-pub permission_by : (line : List ℕ) {place : Place} {p : ℕ} {allow deny : Bool} → place ≡ At p → string_is line p (ascii "allow") ≡ allow → string_is line p (ascii "deny") ≡ deny
-    → permission_here line place ≡ cond allow (PermissionIs true) (cond deny (PermissionIs false) BadPermission)
-unfolding permission_here
-permission_by line h e f = ap (permission_here line) h ∙ λ i. cond (e i) (PermissionIs true) (cond (f i) (PermissionIs false) BadPermission)
+pub passed_on : {T E : Type 0} {e : E} (r : Result T E) → IsErrAnd r (λ x. x ≡ e) → r ≡ Err e
+passed_on r h = let p = err_from_is_err_and r h in p.1 ∙ ap Err p.2
 
-pub action_by : (line : List ℕ) {place : Place} {p : ℕ} {all publish subscribe : Bool} → place ≡ At p → string_is line p (ascii "all") ≡ all
-    → string_is line p (ascii "publish") ≡ publish → string_is line p (ascii "subscribe") ≡ subscribe
-    → action_here line place
-    ≡ cond all (ActionIs action.All) (cond publish (ActionIs action.Publish) (cond subscribe (ActionIs action.Subscribe) BadAction))
-unfolding action_here
-action_by line h e f g =
-    ap (action_here line) h
-    ∙ λ i. cond (e i) (ActionIs action.All) (cond (f i) (ActionIs action.Publish) (cond (g i) (ActionIs action.Subscribe) BadAction))
+-- a value that must be there
+pub missing : {A B E : Type 0} (o : Option A) {e f : E} {r : Result A E} (s : Result B E) → r ≡ ok_or o f → r ≡ Err e → IsErrAnd s (λ x. x ≡ e) → (o ≡ None) × (s ≡ Err f)
+missing None {e} {f} s h k p = let same : e ≡ f = cc in (refl, passed_on s p ∙ ap Err same)
+missing (Some x) {e} {f} {r} s h k p = let z : ◌≡◌ {A = ℕ} 0 1 = cc in absurd (omega arith)
 
--- ---- the action and the retain
+pub there : {A E : Type 0} (o : Option A) (f : E) {x : A} {r : Result A E} → r ≡ ok_or o f → r ≡ Ok x → o ≡ Some x
+there None f h k = let z : ◌≡◌ {A = ℕ} 0 1 = cc in absurd (omega arith)
+there (Some y) f {x} h k = cc
 
-pub kind_by : {allow allows : Bool} {act acts : Action} {retain retains : Truth} {q asks : Asked} → allow ≡ allows → act ≡ acts → retain ≡ retains → q ≡ asks
-    → takes_kind allow act retain q ≡ takes_kind allows acts retains asks
-kind_by e f g h = λ i. takes_kind (e i) (f i) (g i) (h i)
+-- an error that `map_err` made, and a value that it left
+pub mapped_err : {A E D : Type 0} (r : Result A E) (s : Result A D) (P : E → D → Type 0) {d : D} → MatchResult r (λ x. s ≡ Ok x) (λ e. IsErrAnd s (P e)) → s ≡ Err d
+    → (e : E) × (r ≡ Err e) × P e d
+mapped_err (Ok x) s P {d} h k = let z : ◌≡◌ {A = ℕ} 0 1 = cc in absurd (omega arith)
+mapped_err (Err e) s P {d} h k = let p = err_from_is_err_and s h in let same : p.0 ≡ d = cc (p.1, k) in (e, refl, subst (P e) same p.2)
 
--- an action other than `subscribe` covers a publish, so its retain decides
-pub publish_kind : (allow : Bool) (act : Action) (retain : Truth) (qos : ℕ) (retained : Bool) → (act ≡ action.Subscribe → ⊥)
-    → takes_kind allow act retain (asked.Publish qos retained) ≡ publish_retain allow (flag_of retain) retained
-unfolding takes_kind covers question_of retain_hits
-publish_kind allow action.All retain qos retained h = refl
-publish_kind allow action.Publish retain qos retained h = refl
-publish_kind allow action.Subscribe retain qos retained h = absurd (h refl)
-
-pub publish_by : {allow allows : Bool} {act : Action} {retain : Truth} {flag b : Bool} {q : Asked} {qos : ℕ} {retained : Bool} → allow ≡ allows
-    → (act ≡ action.Subscribe → ⊥) → retain ≡ Holds flag → q ≡ asked.Publish qos retained → flag ≡ b
-    → takes_kind allow act retain q ≡ publish_retain allows (some b) retained
-unfolding flag_of
-publish_by {allows = allows} {act = act} {flag = flag} {qos = qos} {retained = retained} e n f g h =
-    kind_by e refl f g ∙ (publish_kind allows act (Holds flag) qos retained n ∙ ap (λ (x : Bool). publish_retain allows (some x) retained) h)
+pub mapped_ok : {A E D : Type 0} (r : Result A E) (s : Result A D) (P : E → D → Type 0) {v : A} → MatchResult r (λ x. s ≡ Ok x) (λ e. IsErrAnd s (P e)) → s ≡ Ok v → r ≡ Ok v
+mapped_ok (Ok x) s P {v} h k = let same : x ≡ v = cc in ap Ok same
+mapped_ok (Err e) s P {v} h k = let p = err_from_is_err_and s h in let z : ◌≡◌ {A = ℕ} 0 1 = cc (p.1, k) in absurd (omega arith)
 
 -- ---- the QoS
 
 -- an element of an array, by the number that stands there
-pub level_number : (line : List ℕ) (q : ℕ) (takes : Bool) (p : ℕ) {n : ℕ} → number_here line p ≡ FoundIs n → level_here line q takes p ≡ with_level q takes n
+pub level_number : (line : List ℕ) (q : ℕ) (takes : Bool) (p : ℕ) {n : ℕ} → number_here line p ≡ Some n → level_here line q takes p ≡ with_level q takes n
 unfolding level_here
-level_number line q takes p e = λ i. elim (e i) as (λ _. QosRead) [ FoundIs n ↦ with_level q takes n | Absent ↦ QosTakes takes ]
+level_number line q takes p e = λ i. elim (e i) as (λ _. (Option Bool)) [ Some n ↦ with_level q takes n | None ↦ Some takes ]
 
-pub level_other : (line : List ℕ) (q : ℕ) (takes : Bool) (p : ℕ) → number_here line p ≡ Absent → level_here line q takes p ≡ QosTakes takes
+pub level_other : (line : List ℕ) (q : ℕ) (takes : Bool) (p : ℕ) → number_here line p ≡ None → level_here line q takes p ≡ Some takes
 unfolding level_here
-level_other line q takes p e = λ i. elim (e i) as (λ _. QosRead) [ FoundIs n ↦ with_level q takes n | Absent ↦ QosTakes takes ]
+level_other line q takes p e = λ i. elim (e i) as (λ _. (Option Bool)) [ Some n ↦ with_level q takes n | None ↦ Some takes ]
 
--- the step of the loop of `qos_list`
-pub levels_end : (most : ℕ) (line : List ℕ) (q : ℕ) (takes : Bool) → levels_up_to most line q takes Nowhere ≡ QosTakes takes
-unfolding levels_up_to
-levels_end zero line q takes = refl
-levels_end (suc most) line q takes = refl
+-- one element, and those behind it
+module _ (line : List ℕ) (q : ℕ) (takes : Bool) (p : ℕ) (places : List ℕ) where
+  pub levels_next : {now : Bool} → level_here line q takes p ≡ Some now → levels_at line q takes (p ∷ places) ≡ levels_at line q now places
+  unfolding levels_at
+  levels_next e = λ i. elim (e i) as (λ _. (Option Bool)) [ Some now ↦ levels_at line q now places | None ↦ None ]
 
-pub levels_none : (most : ℕ) (line : List ℕ) (q : ℕ) (takes : Bool) (place : Place) → most ≤ 0 → levels_up_to most line q takes place ≡ QosTakes takes
-unfolding levels_up_to
-levels_none zero line q takes place h = refl
-levels_none (suc most) line q takes place h = absurd (omega arith)
-
-pub levels_next : (most : ℕ) (line : List ℕ) (q : ℕ) (takes : Bool) (p : ℕ) {behind : Bool} → 0 < most → level_here line q takes p ≡ QosTakes behind
-    → levels_up_to most line q takes (At p) ≡ levels_up_to (most - 1) line q behind (next_item line p)
-unfolding levels_up_to
-levels_next zero line q takes p h e = absurd (omega arith)
-levels_next (suc most) line q takes p {behind} h e =
-    (λ i. elim (e i) as (λ _. QosRead) [ QosTakes now ↦ levels_up_to most line q now (next_item line p) | BadQos ↦ BadQos ])
-    ∙ ap (λ (n : ℕ). levels_up_to n line q behind (next_item line p)) less
-  where
-    less : most ≡ suc most - 1
-    less = omega arith
-
-pub levels_bad : (most : ℕ) (line : List ℕ) (q : ℕ) (takes : Bool) (p : ℕ) → 0 < most → level_here line q takes p ≡ BadQos
-    → levels_up_to most line q takes (At p) ≡ BadQos
-unfolding levels_up_to
-levels_bad zero line q takes p h e = absurd (omega arith)
-levels_bad (suc most) line q takes p h e =
-    λ i. elim (e i) as (λ _. QosRead) [ QosTakes now ↦ levels_up_to most line q now (next_item line p) | BadQos ↦ BadQos ]
+  pub levels_bad : level_here line q takes p ≡ None → levels_at line q takes (p ∷ places) ≡ None
+  unfolding levels_at
+  levels_bad e = λ i. elim (e i) as (λ _. (Option Bool)) [ Some now ↦ levels_at line q now places | None ↦ None ]
 
 -- a rule's QoS, by the kind of its value
-unfoldable pub qos_on : List ℕ → ℕ → ℕ → Kind → QosRead
+unfoldable pub qos_on : List ℕ → ℕ → ℕ → Kind → Option Bool
 qos_on line q p Number = one_level q (number_here line p)
-qos_on line q p Text = BadQos
-qos_on line q p Array = levels_from line q (first_item 0x5b 0x5d line p)
-qos_on line q p Object = BadQos
-qos_on line q p Word = BadQos
-qos_on line q p Blank = BadQos
-qos_on line q p Other = BadQos
+qos_on line q p Text = None
+qos_on line q p Array = levels_from line q p
+qos_on line q p Object = None
+qos_on line q p Word = None
+qos_on line q p Blank = None
+qos_on line q p Other = None
 
-pub qos_by : (line : List ℕ) (q : ℕ) {place : Place} {p : ℕ} {kind : Kind} → place ≡ At p → kind_at line p ≡ kind → qos_here line q place ≡ qos_on line q p kind
+pub qos_by : (line : List ℕ) (q : ℕ) {place : Option ℕ} {p : ℕ} {kind : Kind} → place ≡ Some p → kind_at line p ≡ kind → qos_here line q place ≡ qos_on line q p kind
 unfolding qos_here qos_on
 qos_by line q {p = p} h e = ap (qos_here line q) h ∙ (by (kind_at line p) ∙ ap (qos_on line q p) e)
   where
     by : (k : Kind) →
-        elim k as (λ _. QosRead) [
+        elim k as (λ _. (Option Bool)) [
           | Number ↦ one_level q (number_here line p)
-          | Text ↦ BadQos
-          | Array ↦ levels_from line q (first_item 0x5b 0x5d line p)
-          | Object ↦ BadQos
-          | Word ↦ BadQos
-          | Blank ↦ BadQos
-          | Other ↦ BadQos
+          | Text ↦ None
+          | Array ↦ levels_from line q p
+          | Object ↦ None
+          | Word ↦ None
+          | Blank ↦ None
+          | Other ↦ None
         ]
         ≡ qos_on line q p k
     by Number = refl
@@ -161,27 +117,17 @@ qos_by line q {p = p} h e = ap (qos_here line q) h ∙ (by (kind_at line p) ∙ 
     by Blank = refl
     by Other = refl
 
-pub qos_other : (line : List ℕ) (q p : ℕ) (kind : Kind) → (kind ≡ Array → ⊥) → (kind ≡ Number → ⊥) → qos_on line q p kind ≡ BadQos
-unfolding qos_on
-qos_other line q p Number h k = absurd (k refl)
-qos_other line q p Text h k = refl
-qos_other line q p Array h k = absurd (h refl)
-qos_other line q p Object h k = refl
-qos_other line q p Word h k = refl
-qos_other line q p Blank h k = refl
-qos_other line q p Other h k = refl
-
 -- ---- a rule, by what is read of it
 
 pub parts_by : (line : List ℕ) (p : RuleParts) (a : Asked) (id : List ℕ) (name : Option (List ℕ)) (topic : List ℕ)
-    {permission : PermissionRead} {act : ActionRead} {qos : QosRead} {taken : TopicRead}
+    {permission : Option Bool} {act : Option Action} {qos : Option Bool} {taken : Result Bool Refusal}
     → p.permission ≡ permission → p.action ≡ act → qos_here line (qos_of_asked a) p.qos ≡ qos → topic_from topic id name line p.topic ≡ taken
     → parts_say line p a id name topic ≡ with_permission (truth_from line p.retain) a permission act qos taken
 unfolding parts_say
 parts_by line p a id name topic e f g h = λ i. with_permission (truth_from line p.retain) a (e i) (f i) (g i) (h i)
 
 rule_by : (line : List ℕ) (m : RulePlaces) (a : Asked) (id : List ℕ) (name : Option (List ℕ)) (topic : List ℕ)
-    {permission : PermissionRead} {act : ActionRead} {qos : QosRead} {taken : TopicRead}
+    {permission : Option Bool} {act : Option Action} {qos : Option Bool} {taken : Result Bool Refusal}
     → permission_here line m.permission ≡ permission → action_here line m.action ≡ act → qos_here line (qos_of_asked a) m.qos ≡ qos
     → topic_from topic id name line m.topic ≡ taken
     → rule_says line m a id name topic ≡ with_permission (truth_from line m.retain) a permission act qos taken
@@ -189,26 +135,26 @@ unfolding rule_says parts_say parts_at
 rule_by line m a id name topic e f g h = parts_by line (parts_at line m) a id name topic e f g h
 
 -- the QoS is read with the asked one
-pub qos_asked_lem : (line : List ℕ) {q : ℕ} (a : Asked) (place : Place) {r s : QosRead} → q ≡ qos_of_asked a → r ≡ qos_here line q place → r ≡ s
+pub qos_asked_lem : (line : List ℕ) {q : ℕ} (a : Asked) (place : Option ℕ) {r s : Option Bool} → q ≡ qos_of_asked a → r ≡ qos_here line q place → r ≡ s
     → qos_here line (qos_of_asked a) place ≡ s
 qos_asked_lem line a place e f g = ap (λ (q : ℕ). qos_here line q place) (sym e) ∙ (sym f ∙ g)
 
 -- ---- the QoS of the tree
 
 -- what is read of a QoS
-unfoldable qos_answer : ℕ → Option (Option (List ℕ)) → QosRead
-qos_answer q none = BadQos
-qos_answer q (some levels) = QosTakes (qos_hits levels q)
+unfoldable qos_answer : ℕ → Option (Option (List ℕ)) → Option Bool
+qos_answer q None = None
+qos_answer q (Some levels) = Some (qos_hits levels q)
 
 -- the levels of elements, behind others that take the asked one or not
-unfoldable on_levels : ℕ → Bool → Option (List ℕ) → QosRead
-on_levels q takes none = BadQos
-on_levels q takes (some levels) = QosTakes (among q levels || takes)
+unfoldable on_levels : ℕ → Bool → Option (List ℕ) → Option Bool
+on_levels q takes None = None
+on_levels q takes (Some levels) = Some (among q levels || takes)
 
-one_more : (q : ℕ) (takes : Bool) (level : ℕ) (o : Option (List ℕ)) → on_levels q (eqb level q || takes) o ≡ on_levels q takes (map (λ levels. level ∷ levels) o)
+one_more : (q : ℕ) (takes : Bool) (level : ℕ) (o : Option (List ℕ)) → on_levels q (eqb level q || takes) o ≡ on_levels q takes (option_map (λ levels. level ∷ levels) o)
 unfolding on_levels among
-one_more q takes level none = refl
-one_more q takes level (some levels) = ap QosTakes (by (among q levels) (eqb level q))
+one_more q takes level None = refl
+one_more q takes level (Some levels) = ap Some (by (among q levels) (eqb level q))
   where
     by : (a b : Bool) → (a || (b || takes)) ≡ ((b || a) || takes)
     by true true = refl
@@ -216,30 +162,24 @@ one_more q takes level (some levels) = ap QosTakes (by (among q levels) (eqb lev
     by false true = refl
     by false false = refl
 
-levels_in : (line : List ℕ) (q most low high : ℕ) (takes : Bool) (es : Elements) → ElementsIn line low high es → high - low ≤ most
-    → levels_up_to most line q takes (element_place es) ≡ on_levels q takes (qos_in es)
-unfolding element_place qos_in as_number number_of bind qos_level with_level
-levels_in line q most low high takes no_element h k = levels_end most line q takes ∙ unfold on_levels among in refl
-levels_in line q zero low high takes (element at value rest) h k = absurd (omega (arith, value_next depth_limit line at h.2.reads, h.1, h.2.before))
-levels_in line q (suc most) low high takes (element at value rest) h k =
-    by
-    (λ behind.
-    ap (levels_up_to (suc most - 1) line q behind) h.2.onward
-    ∙ levels_in line q (suc most - 1) h.0 high behind rest h.3 (omega (arith, value_next depth_limit line at h.2.reads, h.1, h.2.before)))
-    value (number_is depth_limit line at h.2.reads)
+levels_in : (line : List ℕ) (q low high : ℕ) (takes : Bool) (es : Elements) → ElementsIn line low high es
+    → levels_at line q takes (element_places es) ≡ on_levels q takes (qos_in es)
+unfolding element_places qos_in as_number number_of bind qos_level with_level
+levels_in line q low high takes no_element h = unfold levels_at on_levels among in refl
+levels_in line q low high takes (element at value rest) h = by (λ behind. levels_in line q h.0 high behind rest h.3) value (number_is depth_limit line at h.2.reads)
   where
-    dropped : levels_up_to (suc most - 1) line q takes (next_item line at) ≡ on_levels q takes (qos_in rest) → number_here line at ≡ Absent
-        → levels_up_to (suc most) line q takes (At at) ≡ on_levels q takes (qos_in rest)
-    dropped onward e = levels_next (suc most) line q takes at (omega arith) (level_other line q takes at e) ∙ onward
+    dropped : levels_at line q takes (element_places rest) ≡ on_levels q takes (qos_in rest) → number_here line at ≡ None
+        → levels_at line q takes (at ∷ element_places rest) ≡ on_levels q takes (qos_in rest)
+    dropped onward e = levels_next line q takes at (element_places rest) (level_other line q takes at e) ∙ onward
 
-    level : (n : ℕ) (b : Bool) → ((behind : Bool) → levels_up_to (suc most - 1) line q behind (next_item line at) ≡ on_levels q behind (qos_in rest))
-        → level_here line q takes at ≡ cond b (QosTakes (eqb (n % 256) q || takes)) BadQos
-        → levels_up_to (suc most) line q takes (At at) ≡ on_levels q takes (bind (cond b (some (n % 256)) none) (λ l. map (λ levels. l ∷ levels) (qos_in rest)))
-    level n true onward e = levels_next (suc most) line q takes at (omega arith) e ∙ (onward (eqb (n % 256) q || takes) ∙ one_more q takes (n % 256) (qos_in rest))
-    level n false onward e = levels_bad (suc most) line q takes at (omega arith) e ∙ unfold on_levels in refl
+    level : (n : ℕ) (b : Bool) → ((behind : Bool) → levels_at line q behind (element_places rest) ≡ on_levels q behind (qos_in rest))
+        → level_here line q takes at ≡ cond b (Some (eqb (n % 256) q || takes)) None
+        → levels_at line q takes (at ∷ element_places rest) ≡ on_levels q takes (bind (cond b (Some (n % 256)) None) (λ l. option_map (λ levels. l ∷ levels) (qos_in rest)))
+    level n true onward e = levels_next line q takes at (element_places rest) e ∙ (onward (eqb (n % 256) q || takes) ∙ one_more q takes (n % 256) (qos_in rest))
+    level n false onward e = levels_bad line q takes at (element_places rest) e ∙ unfold on_levels in refl
 
-    by : ((behind : Bool) → levels_up_to (suc most - 1) line q behind (next_item line at) ≡ on_levels q behind (qos_in rest)) → (x : Json)
-        → number_here line at ≡ number_of x → levels_up_to (suc most) line q takes (At at) ≡ on_levels q takes (qos_in (element at x rest))
+    by : ((behind : Bool) → levels_at line q behind (element_places rest) ≡ on_levels q behind (qos_in rest)) → (x : Json)
+        → number_here line at ≡ number_of x → levels_at line q takes (at ∷ element_places rest) ≡ on_levels q takes (qos_in (element at x rest))
     by onward null e = dropped (onward takes) e
     by onward (bool b) e = dropped (onward takes) e
     by onward (number n) e = level n (leb (n % 256) 2) onward (level_number line q takes at e)
@@ -247,27 +187,27 @@ levels_in line q (suc most) low high takes (element at value rest) h k =
     by onward (array es) e = dropped (onward takes) e
     by onward (object ms) e = dropped (onward takes) e
 
-qos_stands : (line : List ℕ) (q : ℕ) (place : Place) (o : Option Value) → Stands line place o → qos_here line q place ≡ qos_answer q (qos_of o)
+qos_stands : (line : List ℕ) (q : ℕ) (place : Option ℕ) (o : Option Value) → Stands line place o → qos_here line q place ≡ qos_answer q (qos_of o)
 unfolding qos_of qos_answer qos_hits
-qos_stands line q Nowhere none h = unfold qos_here in refl
-qos_stands line q Nowhere (some v) h = absurd h
-qos_stands line q (At p) none h = absurd h
-qos_stands line q (At p) (some v) h = unfold qos_value as_array as_number bind kind_is qos_on in qos_by line q refl (kind_is_lem depth_limit line p h.1) ∙ by v.value h.1
+qos_stands line q None None h = unfold qos_here in refl
+qos_stands line q None (Some v) h = absurd h
+qos_stands line q (Some p) None h = absurd h
+qos_stands line q (Some p) (Some v) h = unfold qos_value as_array as_number bind kind_is qos_on in qos_by line q refl (kind_is_lem depth_limit line p h.1) ∙ by v.value h.1
   where
-    one : (n : ℕ) (b : Bool) → cond b (QosTakes (eqb (n % 256) q || false)) BadQos ≡ qos_answer q (map some (map (λ l. l ∷ []) (cond b (some (n % 256)) none)))
+    one : (n : ℕ) (b : Bool) → cond b (Some (eqb (n % 256) q || false)) None ≡ qos_answer q (option_map Some (option_map (λ l. l ∷ []) (cond b (Some (n % 256)) None)))
     one n true = unfold among in refl
     one n false = refl
 
-    all : (o : Option (List ℕ)) → on_levels q false o ≡ qos_answer q (map some o)
-    all none = unfold on_levels in refl
-    all (some levels) = unfold on_levels in ap QosTakes (last (among q levels))
+    all : (o : Option (List ℕ)) → on_levels q false o ≡ qos_answer q (option_map Some o)
+    all None = unfold on_levels in refl
+    all (Some levels) = unfold on_levels in ap Some (last (among q levels))
       where
         last : (b : Bool) → (b || false) ≡ b
         last true = refl
         last false = refl
 
-    by : (x : Json) → value_here line p ≡ some (record { value = x; next = h.0 })
-        → qos_on line q p (kind_is x) ≡ qos_answer q (map some (qos_value (record { at = v.at; value = x })))
+    by : (x : Json) → value_here line p ≡ Some (record { value = x; next = h.0 })
+        → qos_on line q p (kind_is x) ≡ qos_answer q (option_map Some (qos_value (record { at = v.at; value = x })))
     by null e = unfold qos_value as_array as_number bind kind_is qos_on in refl
     by (bool b) e = unfold qos_value as_array as_number bind kind_is qos_on in refl
     by (number n) e =
@@ -276,9 +216,7 @@ qos_stands line q (At p) (some v) h = unfold qos_value as_array as_number bind k
     by (text t) e = unfold qos_value as_array as_number bind kind_is qos_on in refl
     by (array es) e =
         unfold qos_value as_array kind_is qos_on levels_from in
-        let a = array_is line p e refl in
-        ap (levels_up_to (length line) line q false) a.first
-        ∙ (levels_in line q (length line) (p + 1) h.0 false es a.elements (omega (arith, value_next depth_limit line p e)) ∙ all (qos_in es))
+        ap (levels_at line q false) (array_places line p e refl) ∙ (levels_in line q (p + 1) h.0 false es (array_is line p e refl).elements ∙ all (qos_in es))
     by (object ms) e = unfold qos_value as_array as_number bind kind_is qos_on in refl
 
 -- ---- a rule of the tree
@@ -321,7 +259,7 @@ module _ (a : Asked) (topic : List ℕ) where
       by (asked.Publish q r) = refl
 
   -- QoS, action, retain and topic all hit, in whichever order
-  hits_alike : (allow : Bool) (act : Action) (levels : Option (List ℕ)) {retain : Option Bool} (truth : Truth) (t : rule.Topic) → flag_of truth ≡ retain
+  hits_alike : (allow : Bool) (act : Action) (levels : Option (List ℕ)) {retain : Option Bool} (truth : Option Bool) (t : rule.Topic) → truth ≡ retain
       → ((qos_hits levels (qos_of_asked a) && takes_kind allow act truth a) && topic_hits t topic)
       ≡ hits (question_of a topic) (record { allow = allow; action = act; qos = levels; retain = retain; topic = t })
   unfolding hits qos_of_asked takes_kind
@@ -338,29 +276,29 @@ module _ (a : Asked) (topic : List ℕ) where
       order false false r t = refl
 
   -- what is read of a rule's members says what the rule does
-  says_alike : (id : List ℕ) (name : Option (List ℕ)) (truth : Truth) (allow : Option Bool) (act : Option Action) (levels : Option (Option (List ℕ))) {retain : Option Bool}
-      (t : Option rule.Topic) → flag_of truth ≡ retain
-      → with_permission truth a (permission_answer allow) (action_answer act) (qos_answer (qos_of_asked a) levels) (taken_by topic (filled_for id name t))
+  says_alike : (id : List ℕ) (name : Option (List ℕ)) (truth : Option Bool) (allow : Option Bool) (act : Option Action) (levels : Option (Option (List ℕ))) {retain : Option Bool}
+      (t : Option rule.Topic) → truth ≡ retain
+      → with_permission truth a allow act (qos_answer (qos_of_asked a) levels) (taken_by topic (filled_for id name t))
       ≡ line_says (question_of a topic)
       (filled_rule id name
-      (bind allow (λ x. bind act (λ y. bind levels (λ z. map (λ w. record { allow = x; action = y; qos = z; retain = retain; topic = w }) t)))))
-  unfolding bind with_permission with_action with_qos permission_answer action_answer qos_answer filled_rule line_says filled_for taken_by by_topic with_topic
-  says_alike id name truth none act levels t e = refl
-  says_alike id name truth (some allow) none levels t e = refl
-  says_alike id name truth (some allow) (some act) none t e = refl
-  says_alike id name truth (some allow) (some act) (some levels) none e = refl
-  says_alike id name truth (some allow) (some act) (some levels) {retain} (some t) e = by (filled_topic t.eq (fill_for id name t.text))
+      (bind allow (λ x. bind act (λ y. bind levels (λ z. option_map (λ w. record { allow = x; action = y; qos = z; retain = retain; topic = w }) t)))))
+  unfolding bind with_permission with_action with_qos qos_answer filled_rule line_says filled_for taken_by by_topic with_topic
+  says_alike id name truth None act levels t e = refl
+  says_alike id name truth (Some allow) None levels t e = refl
+  says_alike id name truth (Some allow) (Some act) None t e = refl
+  says_alike id name truth (Some allow) (Some act) (Some levels) None e = refl
+  says_alike id name truth (Some allow) (Some act) (Some levels) {retain} (Some t) e = by (filled_topic t.eq (fill_for id name t.text))
     where
-      by : (r : Result rule.Topic)
+      by : (r : Result rule.Topic Refusal)
           → by_topic allow (qos_hits levels (qos_of_asked a) && takes_kind allow act truth a) (taken_by topic r)
           ≡ line_says (question_of a topic) (with_topic (record { allow = allow; action = act; qos = levels; retain = retain; topic = t }) r)
-      by (refused cause) = refl
-      by (gives x) = ap (λ (b : Bool). Says (verdict allow b)) (hits_alike allow act levels truth x e)
+      by (Err cause) = refl
+      by (Ok x) = ap (λ (b : Bool). Ok (verdict allow b)) (hits_alike allow act levels truth x e)
 
 -- ---- a line
 
 module _ (line : List ℕ) (at : ℕ) (a : Asked) (topic id : List ℕ) (name : Option (List ℕ)) where
-  object_says : {ms : Members} {next : ℕ} → value_here line at ≡ some (record { value = object ms; next = next }) → longest_member ms ≤ text_limit
+  object_says : {ms : Members} {next : ℕ} → value_here line at ≡ Some (record { value = object ms; next = next }) → longest_member ms ≤ text_limit
       → rule_says line (places_at line at) a id name topic ≡ line_says (question_of a topic) (filled_rule id name (rule_in ms))
   unfolding places_at rule_in text_named
   object_says {ms} e h =
@@ -372,11 +310,11 @@ module _ (line : List ℕ) (at : ℕ) (a : Asked) (topic id : List ℕ) (name : 
       (topic_stands line topic id name _ _ (stands (ascii "topic")))
       ∙ says_alike a topic id name _ _ _ _ _ (retain_stands line _ _ (stands (ascii "retain")))
 
-  other_says : ((n : List ℕ) → member_named n line at ≡ Nowhere) → rule_says line (places_at line at) a id name topic ≡ Refused NotARule
+  other_says : ((n : List ℕ) → member_named n line at ≡ None) → rule_says line (places_at line at) a id name topic ≡ Err NotARule
   unfolding places_at permission_here with_permission
   other_says h = rule_by line (places_at line at) a id name topic (ap (permission_here line) (h (ascii "permission"))) refl refl refl
 
-  value_says : (v : Json) {next : ℕ} → value_here line at ≡ some (record { value = v; next = next }) → longest v ≤ text_limit
+  value_says : (v : Json) {next : ℕ} → value_here line at ≡ Some (record { value = v; next = next }) → longest v ≤ text_limit
       → rule_says line (places_at line at) a id name topic ≡ line_says (question_of a topic) (filled_rule id name (configured v))
   unfolding configured filled_rule line_says named_in longest
   value_says null e h = other_says (λ n. named_is n line at e)
@@ -387,7 +325,7 @@ module _ (line : List ℕ) (at : ℕ) (a : Asked) (topic id : List ℕ) (name : 
   value_says (object ms) e h = object_says e h
 
 -- the topic's string is short
-value_short : (line : List ℕ) (at : ℕ) (v : Json) {next : ℕ} → value_here line at ≡ some (record { value = v; next = next }) → longest v ≤ text_limit
+value_short : (line : List ℕ) (at : ℕ) (v : Json) {next : ℕ} → value_here line at ≡ Some (record { value = v; next = next }) → longest v ≤ text_limit
     → ShortTopic line (member_named (ascii "topic") line at)
 unfolding named_in longest
 value_short line at null e h = subst (ShortTopic line) (sym (named_is (ascii "topic") line at e)) tt
@@ -397,52 +335,52 @@ value_short line at (text t) e h = subst (ShortTopic line) (sym (named_is (ascii
 value_short line at (array es) e h = subst (ShortTopic line) (sym (named_is (ascii "topic") line at e)) tt
 value_short line at (object ms) e h = short_stands line (member_named (ascii "topic") line at) (value_named (ascii "topic") ms) (member_stands (ascii "topic") line at e h)
 
-pub short_line : (line : List ℕ) {n : ℕ} → checked (line_value line) ≡ Valid n → n ≤ text_limit → ShortTopic line (places_at line (skip_blanks line 0)).topic
+pub short_line : (line : List ℕ) {n : ℕ} → checked (line_value line) ≡ Some n → n ≤ text_limit → ShortTopic line (places_at line (skip_blanks line 0)).topic
 unfolding checked places_at
 short_line line {n} e h = by (line_value line) refl e
   where
-    by : (o : Option Json) → line_value line ≡ o → checked o ≡ Valid n → ShortTopic line (member_named (ascii "topic") line (skip_blanks line 0))
-    by none q c = let z : ◌≡◌ {A = ℕ} 0 1 = cc in absurd (omega arith)
-    by (some v) q c = let l : longest v ≡ n = cc in value_short line (skip_blanks line 0) v (line_is line q).1 (omega arith)
+    by : (o : Option Json) → line_value line ≡ o → checked o ≡ Some n → ShortTopic line (member_named (ascii "topic") line (skip_blanks line 0))
+    by None q c = let z : ◌≡◌ {A = ℕ} 0 1 = cc in absurd (omega arith)
+    by (Some v) q c = let l : longest v ≡ n = cc in value_short line (skip_blanks line 0) v (line_is line q).1 (omega arith)
 
 module _ (id : List ℕ) (name : Option (List ℕ)) (line : List ℕ) where
-  pub long_says : (q : Question) → line_limit < length line → line_says q (read_line id name line) ≡ Refused TooLong
+  pub long_says : (q : Question) → line_limit < length line → line_says q (read_line id name line) ≡ Err TooLong
   unfolding read_line line_says
-  long_says q h = ap (λ (b : Bool). line_says q (cond b (refused TooLong) (rule_from id name (line_value line)))) (lt-ltb line_limit (length line) h)
+  long_says q h = ap (λ (b : Bool). line_says q (cond b (Err TooLong) (rule_from id name (line_value line)))) (lt-ltb line_limit (length line) h)
 
   short_says : (q : Question) → length line ≤ line_limit → line_says q (read_line id name line) ≡ line_says q (rule_from id name (line_value line))
   unfolding read_line
-  short_says q h = ap (λ (b : Bool). line_says q (cond b (refused TooLong) (rule_from id name (line_value line)))) (le-ltb line_limit (length line) h)
+  short_says q h = ap (λ (b : Bool). line_says q (cond b (Err TooLong) (rule_from id name (line_value line)))) (le-ltb line_limit (length line) h)
 
-  pub invalid_says : (q : Question) → length line ≤ line_limit → checked (line_value line) ≡ Invalid → line_says q (read_line id name line) ≡ Refused NotJson
+  pub invalid_says : (q : Question) → length line ≤ line_limit → checked (line_value line) ≡ None → line_says q (read_line id name line) ≡ Err NotJson
   unfolding checked rule_from line_says
   invalid_says q h e = short_says q h ∙ by (line_value line) e
     where
-      by : (o : Option Json) → checked o ≡ Invalid → line_says q (rule_from id name o) ≡ Refused NotJson
-      by none c = refl
-      by (some v) c = let z : ◌≡◌ {A = ℕ} 0 1 = cc in absurd (omega arith)
+      by : (o : Option Json) → checked o ≡ None → line_says q (rule_from id name o) ≡ Err NotJson
+      by None c = refl
+      by (Some v) c = let z : ◌≡◌ {A = ℕ} 0 1 = cc in absurd (omega arith)
 
-  pub over_says : (q : Question) {n : ℕ} → length line ≤ line_limit → checked (line_value line) ≡ Valid n → text_limit < n → line_says q (read_line id name line) ≡ Refused TooLong
+  pub over_says : (q : Question) {n : ℕ} → length line ≤ line_limit → checked (line_value line) ≡ Some n → text_limit < n → line_says q (read_line id name line) ≡ Err TooLong
   unfolding checked rule_from line_says
   over_says q {n} h e o = short_says q h ∙ by (line_value line) e
     where
-      by : (o : Option Json) → checked o ≡ Valid n → line_says q (rule_from id name o) ≡ Refused TooLong
-      by none c = let z : ◌≡◌ {A = ℕ} 0 1 = cc in absurd (omega arith)
-      by (some v) c =
+      by : (o : Option Json) → checked o ≡ Some n → line_says q (rule_from id name o) ≡ Err TooLong
+      by None c = let z : ◌≡◌ {A = ℕ} 0 1 = cc in absurd (omega arith)
+      by (Some v) c =
           let l : longest v ≡ n = cc in
-          ap (λ (b : Bool). line_says q (cond b (refused TooLong) (filled_rule id name (configured v)))) (lt-ltb text_limit (longest v) (omega arith))
+          ap (λ (b : Bool). line_says q (cond b (Err TooLong) (filled_rule id name (configured v)))) (lt-ltb text_limit (longest v) (omega arith))
 
-  pub valid_says : (a : Asked) (topic : List ℕ) {n : ℕ} → length line ≤ line_limit → checked (line_value line) ≡ Valid n → n ≤ text_limit
+  pub valid_says : (a : Asked) (topic : List ℕ) {n : ℕ} → length line ≤ line_limit → checked (line_value line) ≡ Some n → n ≤ text_limit
       → line_says (question_of a topic) (read_line id name line) ≡ rule_says line (places_at line (skip_blanks line 0)) a id name topic
   unfolding checked rule_from
   valid_says a topic {n} h e k = short_says (question_of a topic) h ∙ by (line_value line) refl e
     where
-      by : (o : Option Json) → line_value line ≡ o → checked o ≡ Valid n
+      by : (o : Option Json) → line_value line ≡ o → checked o ≡ Some n
           → line_says (question_of a topic) (rule_from id name o) ≡ rule_says line (places_at line (skip_blanks line 0)) a id name topic
-      by none q c = let z : ◌≡◌ {A = ℕ} 0 1 = cc in absurd (omega arith)
-      by (some v) q c =
+      by None q c = let z : ◌≡◌ {A = ℕ} 0 1 = cc in absurd (omega arith)
+      by (Some v) q c =
           let l : longest v ≡ n = cc in
-          ap (λ (b : Bool). line_says (question_of a topic) (cond b (refused TooLong) (filled_rule id name (configured v)))) (le-ltb text_limit (longest v) (omega arith))
+          ap (λ (b : Bool). line_says (question_of a topic) (cond b (Err TooLong) (filled_rule id name (configured v)))) (le-ltb text_limit (longest v) (omega arith))
           ∙ sym (value_says line (skip_blanks line 0) a topic id name v (line_is line q).1 (omega arith))
 
 -- ---- what a line's members tell
@@ -456,12 +394,8 @@ pub tells_says : (line : List ℕ) (a : Asked) (topic id : List ℕ) (name : Opt
 unfolding rule_says parts_say parts_at
 tells_says line a topic id name m e = ap (λ (x : RuleParts). parts_say line x a id name topic) e
 
--- where a line was passed over
-pub line_answered : (line : List ℕ) {r : LinePassed} {p : RuleParts} → r ≡ Parts p → WhereLine r (LineTo line) → LineTo line p
-line_answered line e h = subst (λ (x : LinePassed). WhereLine x (LineTo line)) e h
-
 module _ (line : List ℕ) {p : RuleParts} (t : LineTo line p) where
-  passed_valid : checked (line_value line) ≡ Valid (longest t.value)
+  passed_valid : checked (line_value line) ≡ Some (longest t.value)
   unfolding checked
   passed_valid = ap checked t.reads
 

@@ -1,14 +1,13 @@
 -- Laws of a topic whose only `$` begins one of the words that are filled. Assumes nothing.
 use Prim.Native.Nat.{ℕ, suc, ◌+◌, ◌-◌, ◌≤◌, ◌<◌}
-use native.Mathlib.Numerals.{add-one}
 use native.Mathlib.Omega.{arith}
 use mathlib.Core.Path.{◌≡◌, refl, sym, ap, subst, ◌∙◌}
 use mathlib.Core.Bool.{Bool, true, false, ◌&&◌, ◌||◌, cond}
 use mathlib.Core.List.{List, [], ◌∷◌, ◌++◌, append-nil}
-use mathlib.Core.Option.{Option, some}
+use Rattle.std.specs.Prelude.{Option, Some}
 use lib.Dec.{eqb}
-use lib.ListN.{length, get_or, take, drop, drop_of_length-le, length-append, length-drop}
-use lib.Seq.{drop-cons, drop-drop, length-take-le}
+use lib.ListN.{length, take, drop, drop_of_length-le, length-append, length-drop}
+use lib.Seq.{drop-drop, length-take-le}
 use borrow.Author.Tests.{eqb-true, eqb-false, eq-eqb, ne_eqb}
 use Rattle.text.specs.Ascii.{ascii}
 use Rattle.text.specs.Text.{begins, contains, occurs, replace, pasted}
@@ -19,17 +18,17 @@ use Rattle.authinfo.specs.Filling.{dollar, before_dollar, dollar_from, stands_la
 
 -- ---- the first `$`, byte by byte
 
-pub dollar_past : (text : List ℕ) (at : ℕ) → length text ≤ at → dollar_from text at ≡ at
-unfolding dollar_from before_dollar
-dollar_past text at h = rw (drop_of_length-le text {i = at} h) (omega arith)
+pub dollar_none : before_dollar [] ≡ 0
+unfolding before_dollar
+dollar_none = refl
 
-pub dollar_here : (text : List ℕ) (at : ℕ) → at < length text → get_or text at 0 ≡ dollar → dollar_from text at ≡ at
-unfolding dollar_from before_dollar
-dollar_here text at h e = rw (drop-cons text at 0 h, eq-eqb (get_or text at 0) dollar e) (omega arith)
+pub dollar_here : (b : ℕ) (text : List ℕ) → b ≡ dollar → before_dollar (b ∷ text) ≡ 0
+unfolding before_dollar
+dollar_here b text e = rw (eq-eqb b dollar e) refl
 
-pub dollar_onward : (text : List ℕ) (at : ℕ) → at < length text → (get_or text at 0 ≡ dollar → ⊥) → dollar_from text at ≡ dollar_from text (at + 1)
-unfolding dollar_from before_dollar
-dollar_onward text at h e = rw (add-one, drop-cons text at 0 h, ne_eqb (get_or text at 0) dollar e) (omega arith)
+pub dollar_onward : (b : ℕ) (text : List ℕ) → (b ≡ dollar → ⊥) → before_dollar (b ∷ text) ≡ before_dollar text + 1
+unfolding before_dollar
+dollar_onward b text h = rw (ne_eqb b dollar h) (omega arith)
 
 pub dollar_first : (text : List ℕ) → dollar_from text 0 ≡ before_dollar text
 unfolding dollar_from
@@ -131,15 +130,15 @@ one_word w t {at} l f e =
 -- ---- the configured text, filled
 
 module _ (id : List ℕ) (name : Option (List ℕ)) (t : List ℕ) where
-  pub fill_none : before_dollar t ≡ length t → fill_for id name t ≡ some t
+  pub fill_none : before_dollar t ≡ length t → fill_for id name t ≡ Some t
   unfolding fill_for put_if
   fill_none e = rw (contains_none (ascii "{username}") t e, contains_none (ascii "{clientid}") t e)
 
-  pub fill_id : {at : ℕ} → OneWord (ascii "{clientid}") t at → fill_for id name t ≡ some (word_put t at id)
+  pub fill_id : {at : ℕ} → OneWord (ascii "{clientid}") t at → fill_for id name t ≡ Some (word_put t at id)
   unfolding fill_for put_if
   fill_id o = rw (o.only (ascii "{username}") (λ rest. unfold contains begins in refl), o.there, o.put id)
 
-  pub fill_name : {at : ℕ} {n : List ℕ} → OneWord (ascii "{username}") t at → some n ≡ name → fill_for id name t ≡ some (word_put t at n)
+  pub fill_name : {at : ℕ} {n : List ℕ} → OneWord (ascii "{username}") t at → Some n ≡ name → fill_for id name t ≡ Some (word_put t at n)
   unfolding fill_for put_if
   fill_name {n = n} o f = rw (o.there, ← f, o.only (ascii "{clientid}") (λ rest. unfold contains begins in refl), o.put n)
 

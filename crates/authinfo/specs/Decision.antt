@@ -1,13 +1,12 @@
 -- What the rules of a client decide: document 01, Per-client rules and Refusals by operation; `AuthInfo` of rmqtt/src/acl.rs.
-use Rattle.std.specs.Prelude.{ℕ, suc, Bool, true, false, ◌&&◌, ◌||◌, not, cond, List, [], ◌∷◌, eqb, ltb, length}
+use Rattle.std.specs.Prelude.{ℕ, suc, Bool, true, false, ◌&&◌, ◌||◌, not, cond, List, [], ◌∷◌, eqb, ltb, length, Option, None, Some, Ok, Err}
 use Rattle.std.specs.Bool.{beq}
-use Rattle.std.proofs.Math.Option.{Option, none, some}
 use Rattle.text.specs.Text.{same}
 use Rattle.topic.specs.Topic.{plain_match}
 use Rattle.json_text.specs.Lines.{lines}
 use Rattle.rule.specs.Limits.{text_limit, lines_limit, id_limit}
 use Rattle.rule.specs.Refusals.{number}
-use Rattle.rule.specs.RuleText.{refused, gives, Fault}
+use Rattle.rule.specs.declared.Fault.{Fault}
 use Rattle.rule.specs.declared.Refusal.TheVariants.{TooLong, OutOfRange}
 use Rattle.authinfo.specs.ClientRule.{Topic, ClientRule, read_line}
 use Rattle.authinfo.specs.declared.Action.{Action}
@@ -60,14 +59,14 @@ among q [] = false
 among q (level ∷ levels) = eqb level q || among q levels
 
 unfoldable pub qos_hits : Option (List ℕ) → ℕ → Bool
-qos_hits none q = true
-qos_hits (some levels) q = among q levels
+qos_hits None q = true
+qos_hits (Some levels) q = among q levels
 
 -- "An allow rule with retain false doesn't hit a retained publish, with true it hits either; a deny rule needs equality"
 unfoldable pub publish_retain : Bool → Option Bool → Bool → Bool
-publish_retain allow none retained = true
-publish_retain true (some retain) retained = retain || not retained
-publish_retain false (some retain) retained = beq retain retained
+publish_retain allow None retained = true
+publish_retain true (Some retain) retained = retain || not retained
+publish_retain false (Some retain) retained = beq retain retained
 
 -- "Subscribe ignores retain"
 unfoldable pub retain_hits : Bool → Option Bool → Question → Bool
@@ -97,14 +96,14 @@ unfoldable pub read_lines : List ℕ → Option (List ℕ) → ℕ → List (Lis
 read_lines id name n [] = reads []
 read_lines id name n (line ∷ rest) =
     elim (read_line id name line) [
-      | refused cause ↦ faulty (record { cause = cause; line = n })
-      | gives r ↦ with_rule r (read_lines id name (suc n) rest)
+      | Err cause ↦ faulty (record { cause = cause; line = n })
+      | Ok r ↦ with_rule r (read_lines id name (suc n) rest)
     ]
 
 -- "the first rule that hits", with its number, counted from n
 unfoldable pub first_hit : Question → ℕ → List ClientRule → Option (ℕ × ClientRule)
-first_hit q n [] = none
-first_hit q n (r ∷ rules) = cond (hits q r) (some (n, r)) (first_hit q (suc n) rules)
+first_hit q n [] = None
+first_hit q n (r ∷ rules) = cond (hits q r) (Some (n, r)) (first_hit q (suc n) rules)
 
 -- "answers carry the QoS or disconnect flag as the plugin's do"
 unfoldable pub allowance : Question → ℕ → Decision
@@ -113,13 +112,13 @@ allowance (publish qos retain disconnect topic) n = publishes n
 
 -- "every other refusal, per-client ones too, for `NotAuthorized`"
 unfoldable pub refusal : Question → ℕ → Decision
-refusal (subscribe qos topic) n = not_authorized n none
-refusal (publish qos retain disconnect topic) n = not_authorized n (some disconnect)
+refusal (subscribe qos topic) n = not_authorized n None
+refusal (publish qos retain disconnect topic) n = not_authorized n (Some disconnect)
 
 -- "the first rule that hits decides .. No hit: no decision, rule 0"
 unfoldable pub by_rule : Question → Option (ℕ × ClientRule) → Decision
-by_rule q none = no_decision
-by_rule q (some h) = cond h.1.allow (allowance q h.0) (refusal q h.0)
+by_rule q None = no_decision
+by_rule q (Some h) = cond h.1.allow (allowance q h.0) (refusal q h.0)
 
 -- "Superuser allows, rule 0, once nothing is refused by number"
 unfoldable pub decision : Bool → Question → List ClientRule → Decision
@@ -143,8 +142,8 @@ qos_limit = 2
 
 -- "id or name over 64", where a name is given
 unfoldable pub name_over : Option (List ℕ) → Bool
-name_over none = false
-name_over (some n) = ltb id_limit (length n)
+name_over None = false
+name_over (Some n) = ltb id_limit (length n)
 
 -- "1 id, name or topic as above, text over 32,768 (line 0), then over 256 lines (line 257). 2 QoS over 2"
 unfoldable pub causes : Client → List ℕ → Question → List (Bool × Fault)
@@ -156,13 +155,13 @@ causes c rules q =
 
 -- "The first cause in the order listed gives the number (and line ..)"
 unfoldable pub first_fault : List (Bool × Fault) → Option Fault
-first_fault [] = none
-first_fault (c ∷ rest) = cond c.0 (some c.1) (first_fault rest)
+first_fault [] = None
+first_fault (c ∷ rest) = cond c.0 (Some c.1) (first_fault rest)
 
 -- the reply to a question, by the text of the client's rules
 unfoldable pub ask : Client → List ℕ → Question → Reply
 ask c rules q =
     elim (first_fault (causes c rules q)) [
-      | some f ↦ refuse f
-      | none ↦ on_text c.superuser q (read_lines c.id c.name 1 (lines rules))
+      | Some f ↦ refuse f
+      | None ↦ on_text c.superuser q (read_lines c.id c.name 1 (lines rules))
     ]

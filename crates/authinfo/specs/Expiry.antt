@@ -1,10 +1,8 @@
 -- Expiry: document 01, Per-client rules and Refusals by operation; `AuthInfo::is_expired` of rmqtt/src/acl.rs.
-use Rattle.std.specs.Prelude.{ℕ, Bool, false, ◌&&◌, ◌||◌, cond, eqb, ltb}
+use Rattle.std.specs.Prelude.{ℕ, Bool, false, ◌&&◌, ◌||◌, cond, eqb, ltb, Option, None, Result, Ok, Err, Some}
 use Rattle.rule.specs.Refusals.{number}
-use Rattle.authinfo.specs.declared.Expiry.{Expiry}
-use Rattle.authinfo.specs.declared.Expiry.TheVariants.{Never, At}
-use Rattle.authinfo.specs.declared.ExpiryAnswer.{ExpiryAnswer}
-use Rattle.authinfo.specs.declared.ExpiryAnswer.TheVariants.{Expired, Refused}
+use Rattle.rule.specs.declared.Refusal.{Refusal}
+use Rattle.authinfo.specs.declared.Time.{Time}
 
 -- whether credentials are expired, or a refusal's number
 pub data Reply : Type 0 where
@@ -12,9 +10,9 @@ pub data Reply : Type 0 where
   decides : (expired : Bool) → Reply
 
 -- the answer's cases, each with document 01's number and value
-unfoldable pub expiry_says : ExpiryAnswer → Reply
-expiry_says (Expired expired) = decides expired
-expiry_says (Refused cause) = refuses (number cause)
+unfoldable pub expiry_says : Result Bool Refusal → Reply
+expiry_says (Ok expired) = decides expired
+expiry_says (Err cause) = refuses (number cause)
 
 -- "nanoseconds of either time over 999,999,999"
 abbrev pub nanoseconds_limit : ℕ
@@ -24,20 +22,19 @@ unfoldable pub over_nanoseconds : ℕ → Bool
 over_nanoseconds n = ltb nanoseconds_limit n
 
 -- a time lies before another
-unfoldable pub below : ℕ → ℕ → ℕ → ℕ → Bool
-below s n seconds nanoseconds = ltb s seconds || (eqb s seconds && ltb n nanoseconds)
+unfoldable pub below : Time → Time → Bool
+below t now = ltb t.seconds now.seconds || (eqb t.seconds now.seconds && ltb t.nanoseconds now.nanoseconds)
 
 -- the expiry's nanoseconds are over the limit; "none" has no nanoseconds
-unfoldable pub expiry_over : Expiry → Bool
-expiry_over Never = false
-expiry_over (At s n) = over_nanoseconds n
+unfoldable pub expiry_over : Option Time → Bool
+expiry_over None = false
+expiry_over (Some t) = over_nanoseconds t.nanoseconds
 
 -- "Expired: expiry below now; equal isn't; none never"
-unfoldable pub is_expired : Expiry → ℕ → ℕ → Bool
-is_expired Never seconds nanoseconds = false
-is_expired (At s n) seconds nanoseconds = below s n seconds nanoseconds
+unfoldable pub is_expired : Option Time → Time → Bool
+is_expired None now = false
+is_expired (Some t) now = below t now
 
 -- "2 nanoseconds of either time over 999,999,999"
-unfoldable pub expiry : Expiry → ℕ → ℕ → Reply
-expiry e seconds nanoseconds =
-    cond (expiry_over e || over_nanoseconds nanoseconds) (refuses 2) (decides (is_expired e seconds nanoseconds))
+unfoldable pub expiry : Option Time → Time → Reply
+expiry e now = cond (expiry_over e || over_nanoseconds now.nanoseconds) (refuses 2) (decides (is_expired e now))

@@ -1,7 +1,8 @@
+pub mod Answers
 pub mod ClientRule
 pub mod Decision
-pub mod Answers
 pub mod Expiry
-pub mod Places
-pub mod OnePass
 pub mod Filling
+pub mod Given
+pub mod OnePass
+pub mod Places

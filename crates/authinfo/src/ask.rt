@@ -1,190 +1,127 @@
 // The per-client questions: 1 and 2 by their arguments, then line by line; all lines are read, whoever asks.
 ghost use Rattle.std.specs.Prelude.{◌≡◌, false};
 ghost use Rattle.json_text.specs.Lines.{lines};
-ghost use Rattle.rule.specs.Places.{given};
 ghost use Rattle.authinfo.specs.Decision as decision;
 ghost use Rattle.authinfo.specs.Answers as answers;
 ghost use Rattle.authinfo.specs.Places as spec;
 
-use crate::reading::{asked_qos, line_says};
-use crate::{Asked, FirstHit, LineRead, PublishAnswer, SubscribeAnswer, Verdict};
-use json_text::splitting::{count_lines, line_behind, line_end};
-use rule::{Given, ID, LINES, Refusal, TEXT};
+use crate::client::Client;
+use crate::reading::line_says;
+use crate::{Asked, Hit, PublishAnswer, QOS, SubscribeAnswer};
+use json_text::splitting::{Lines, count_lines};
+use rule::{Fault, ID, LINES, Refusal, TEXT};
 
 // "Text over 32,768."
 const RULES: usize = 32768;
 
-const QOS: u64 = 2;
-
-// The first hit, with a later rule's verdict.
-fn or_hit(found: FirstHit, verdict: Verdict, n: usize) -> FirstHit
-    ensures { result ≡ spec.or_hit found verdict n }
+// The first hit, with what a later rule says.
+fn or_hit(found: Option<Hit>, said: Option<bool>, rule: usize) -> Option<Hit>
+    ensures { result ≡ spec.or_hit found said rule }
 {
-    let FirstHit::NoRule = found else {
-        return found;
-    };
-    match verdict {
-        Verdict::Misses => FirstHit::NoRule,
-        Verdict::Allows => FirstHit::Rule(n, true),
-        Verdict::Denies => FirstHit::Rule(n, false),
-    }
+    found.or(said.map(|allow| Hit { rule, allow }))
 }
 
 // The first rule of the text that hits, or its first faulty line.
 fn first_hit(
     rules: &[u8],
     asked: Asked,
-    id: &[u8],
-    name: Given,
-    names: &[u8],
+    client: &Client,
     topic: &[u8],
-) -> FirstHit
-    requires { decision.name_over (given name names.now) ≡ false }
-    ensures { result ≡ spec.hit_in (spec.question_of asked topic.now) (decision.read_lines id.now (given name names.now) 1 (lines rules.now)) }
+) -> Result<Option<Hit>, Fault>
+    requires { decision.name_over client.now.name ≡ false }
+    ensures { result ≡ spec.hit_in (spec.question_of asked topic.now) (decision.read_lines client.now.id client.now.name 1 (lines rules.now)) }
 {
-    let mut found = FirstHit::NoRule;
-    let mut n = 1;
-    let mut at = 0;
-    while at < rules.len() {
-        let end = line_end(rules, at);
-        match line_says(&rules[at..end], asked, id, name, names, topic) {
-            LineRead::Refused(cause) => {
-                return FirstHit::Faulty(cause, n);
-            }
-            LineRead::Says(verdict) => {
-                found = or_hit(found, verdict, n);
-                at = line_behind(rules, end);
-                n += 1;
-            }
-        }
+    let mut found = None;
+    let mut n = 0;
+    for line in Lines::new(rules) {
+        n += 1;
+        let said = line_says(line, asked, client, topic).map_err(|cause| Fault { cause, line: n })?;
+        found = or_hit(found, said, n);
     }
-    found
+    Ok(found)
 }
 
 // Is a name that is given over 64 bytes?
-fn name_over(name: Given, names: &[u8]) -> bool
-    ensures { result ≡ decision.name_over (given name names.now) }
+#[tactic(auto, unfolding(crate::specs::Decision::name_over, crate::specs::Given::given))]
+fn name_over(client: &Client) -> bool
+    ensures { result ≡ decision.name_over client.now.name }
 {
-    match name {
-        Given::Absent => false,
-        Given::Length(n) => {
-            if ID < n {
-                return ID < names.len();
-            }
-            false
-        }
+    match client.name {
+        Some(n) => ID < text::front(client.names, n).len(),
+        None => false,
     }
 }
 
 // "1 id, name or topic as above, text over 32,768."
-fn too_long(id: &[u8], name: Given, names: &[u8], topic: &[u8], rules: &[u8]) -> bool
-    ensures { result ≡ spec.too_long id.now (given name names.now) topic.now rules.now }
+#[tactic(auto, unfolding(crate::specs::Places::too_long))]
+fn too_long(client: &Client, topic: &[u8], rules: &[u8]) -> bool
+    ensures { result ≡ spec.too_long client.now.id client.now.name topic.now rules.now }
 {
-    if ID < id.len() {
-        return true;
-    }
-    if name_over(name, names) {
-        return true;
-    }
-    if TEXT < topic.len() {
-        return true;
-    }
-    RULES < rules.len()
+    ID < client.id.len() || name_over(client) || TEXT < topic.len() || RULES < rules.len()
 }
 
 // The rule that decides, for a superuser number 0 that allows; or the first refusal by number.
-fn deciding(
-    superuser: bool,
-    id: &[u8],
-    name: Given,
-    names: &[u8],
-    rules: &[u8],
-    asked: Asked,
-    topic: &[u8],
-) -> FirstHit
-    ensures { result ≡ spec.deciding (record { superuser = superuser; id = id.now; name = given name names.now }) rules.now (spec.question_of asked topic.now) }
+fn deciding(client: &Client, rules: &[u8], asked: Asked, topic: &[u8]) -> Result<Option<Hit>, Fault>
+    ensures { result ≡ spec.deciding client.now rules.now (spec.question_of asked topic.now) }
 {
-    if too_long(id, name, names, topic, rules) {
-        return FirstHit::Faulty(Refusal::TooLong, 0);
+    if too_long(client, topic, rules) {
+        return Err(Fault {
+            cause: Refusal::TooLong,
+            line: 0,
+        });
     }
     if LINES < count_lines(rules, LINES) {
-        return FirstHit::Faulty(Refusal::TooLong, LINES + 1);
+        return Err(Fault {
+            cause: Refusal::TooLong,
+            line: LINES + 1,
+        });
     }
-    if QOS < asked_qos(asked) {
-        return FirstHit::Faulty(Refusal::OutOfRange, 0);
+    if QOS < asked.qos() {
+        return Err(Fault {
+            cause: Refusal::OutOfRange,
+            line: 0,
+        });
     }
-    let found = first_hit(rules, asked, id, name, names, topic);
-    if let FirstHit::Faulty(cause, line) = found {
-        return FirstHit::Faulty(cause, line);
+    let found = first_hit(rules, asked, client, topic)?;
+    if client.superuser {
+        return Ok(Some(Hit {
+            rule: 0,
+            allow: true,
+        }));
     }
-    if superuser {
-        return FirstHit::Rule(0, true);
-    }
-    found
+    Ok(found)
 }
 
 // May the client subscribe to the topic, by the rules that came with its credentials?
 pub fn client_subscribe(
-    superuser: bool,
-    id: &[u8],
-    name: Given,
-    names: &[u8],
+    client: &Client,
     rules: &[u8],
     qos: u64,
     topic: &[u8],
-) -> SubscribeAnswer
-    ensures { answers.subscribe_says result ≡ decision.ask (record { superuser = superuser; id = id.now; name = given name names.now }) rules.now (decision.subscribe qos topic.now) }
+) -> Result<SubscribeAnswer, Fault>
+    ensures { answers.subscribe_says result ≡ decision.ask client.now rules.now (decision.subscribe qos topic.now) }
 {
-    match deciding(
-        superuser,
-        id,
-        name,
-        names,
-        rules,
-        Asked::Subscribe(qos),
-        topic,
-    ) {
-        FirstHit::Faulty(cause, line) => SubscribeAnswer::Refused(cause, line),
-        FirstHit::NoRule => SubscribeAnswer::NoDecision,
-        FirstHit::Rule(n, allow) => {
-            if allow {
-                return SubscribeAnswer::Allow(n, qos);
-            }
-            SubscribeAnswer::Refuse(n)
-        }
+    match deciding(client, rules, Asked::Subscribe(qos), topic)? {
+        Some(hit) if hit.allow => Ok(SubscribeAnswer::Allow(hit.rule, qos)),
+        Some(hit) => Ok(SubscribeAnswer::Refuse(hit.rule)),
+        None => Ok(SubscribeAnswer::NoDecision),
     }
 }
 
 // May the client publish to the topic, by the rules that came with its credentials?
 pub fn client_publish(
-    superuser: bool,
-    id: &[u8],
-    name: Given,
-    names: &[u8],
+    client: &Client,
     rules: &[u8],
     qos: u64,
     retain: bool,
     disconnect: bool,
     topic: &[u8],
-) -> PublishAnswer
-    ensures { answers.publish_says result ≡ decision.ask (record { superuser = superuser; id = id.now; name = given name names.now }) rules.now (decision.publish qos retain disconnect topic.now) }
+) -> Result<PublishAnswer, Fault>
+    ensures { answers.publish_says result ≡ decision.ask client.now rules.now (decision.publish qos retain disconnect topic.now) }
 {
-    match deciding(
-        superuser,
-        id,
-        name,
-        names,
-        rules,
-        Asked::Publish(qos, retain),
-        topic,
-    ) {
-        FirstHit::Faulty(cause, line) => PublishAnswer::Refused(cause, line),
-        FirstHit::NoRule => PublishAnswer::NoDecision,
-        FirstHit::Rule(n, allow) => {
-            if allow {
-                return PublishAnswer::Allow(n);
-            }
-            PublishAnswer::Refuse(n, disconnect)
-        }
+    match deciding(client, rules, Asked::Publish(qos, retain), topic)? {
+        Some(hit) if hit.allow => Ok(PublishAnswer::Allow(hit.rule)),
+        Some(hit) => Ok(PublishAnswer::Refuse(hit.rule, disconnect)),
+        None => Ok(PublishAnswer::NoDecision),
     }
 }

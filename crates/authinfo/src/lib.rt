@@ -4,6 +4,7 @@
 #![tactic(auto)]
 
 pub mod ask;
+pub mod client;
 mod filling;
 mod members;
 mod one_pass;
@@ -11,11 +12,18 @@ mod reading;
 pub mod times;
 mod words;
 
-use json_text::Place;
-use rule::Refusal;
+ghost use Rattle.std.specs.Prelude.{◌≡◌};
+
+use json_text::values::DEPTH;
+
+// The highest QoS.
+const QOS: u64 = 2;
+
+// How many brackets may be open inside a line's object.
+const INSIDE: usize = DEPTH - 1;
 
 // Which questions a rule covers.
-#[derive(Clone, Copy)]
+#[derive(Clone, Copy, Debug, PartialEq, Eq)]
 pub enum Action {
     All,
     Publish,
@@ -23,116 +31,73 @@ pub enum Action {
 }
 
 // What is asked, but for the topic: a subscribe with its QoS, a publish with its QoS and whether it is retained.
-#[derive(Clone, Copy)]
+#[derive(Clone, Copy, Debug, PartialEq, Eq)]
 pub enum Asked {
     Subscribe(u64),
     Publish(u64, bool),
 }
 
+impl Asked {
+    ghost use Rattle.authinfo.specs.Places as spec;
+
+    // The QoS that is asked for.
+    #[tactic(auto, unfolding(crate::specs::Places::qos_of_asked, crate::specs::Decision::qos_asked, crate::specs::Places::question_of))]
+    fn qos(self) -> u64
+        ensures { result ≡ spec.qos_of_asked self }
+    {
+        match self {
+            Asked::Subscribe(qos) | Asked::Publish(qos, _) => qos,
+        }
+    }
+}
+
 // Allowed by a rule, or rule 0 for a superuser, with the asked QoS; refused by a rule; no rule hits; refused by number, with the line.
-#[derive(Clone, Copy)]
+#[derive(Clone, Copy, Debug, PartialEq, Eq)]
 pub enum SubscribeAnswer {
     Allow(usize, u64),
     Refuse(usize),
     NoDecision,
-    Refused(Refusal, usize),
 }
 
 // Refused with the caller's disconnect flag.
-#[derive(Clone, Copy)]
+#[derive(Clone, Copy, Debug, PartialEq, Eq)]
 pub enum PublishAnswer {
     Allow(usize),
     Refuse(usize, bool),
     NoDecision,
-    Refused(Refusal, usize),
 }
 
 // The values of an object's members that say something of a rule, by their places.
-#[derive(Clone, Copy)]
+#[derive(Clone, Copy, Debug, PartialEq, Eq)]
 pub struct RulePlaces {
-    pub permission: Place,
-    pub action: Place,
-    pub qos: Place,
-    pub retain: Place,
-    pub topic: Place,
-}
-
-#[derive(Clone, Copy)]
-pub enum PermissionRead {
-    Is(bool),
-    Bad,
-}
-
-#[derive(Clone, Copy)]
-pub enum ActionRead {
-    Is(Action),
-    Bad,
+    pub permission: Option<usize>,
+    pub action: Option<usize>,
+    pub qos: Option<usize>,
+    pub retain: Option<usize>,
+    pub topic: Option<usize>,
 }
 
 // What an object's members tell of a rule: two words, three values by their places, and the topic's closing quote if its string is plain.
-#[derive(Clone, Copy)]
+#[derive(Clone, Copy, Debug, PartialEq, Eq)]
 pub struct RuleParts {
-    pub permission: PermissionRead,
-    pub action: ActionRead,
-    pub qos: Place,
-    pub retain: Place,
-    pub topic: Place,
-    pub quote: Place,
+    pub permission: Option<bool>,
+    pub action: Option<Action>,
+    pub qos: Option<usize>,
+    pub retain: Option<usize>,
+    pub topic: Option<usize>,
+    pub quote: Option<usize>,
 }
 
-// What a line that was passed over tells of a rule; or that it was not.
-#[derive(Clone, Copy)]
-pub enum LinePassed {
-    Parts(RuleParts),
-    Unread,
+// The first rule that hits, with its number from 1, or 0 for a superuser, and its permission.
+#[derive(Clone, Copy, Debug, PartialEq, Eq)]
+pub struct Hit {
+    pub rule: usize,
+    pub allow: bool,
 }
 
-// A rule's QoS: does it take the asked one?
-#[derive(Clone, Copy)]
-pub enum QosRead {
-    Takes(bool),
-    Bad,
-}
-
-// A rule's topic, filled: does it take the asked one?
-#[derive(Clone, Copy)]
-pub enum TopicRead {
-    Takes(bool),
-    Refused(Refusal),
-}
-
-// What a rule says to a question.
-#[derive(Clone, Copy)]
-pub enum Verdict {
-    Misses,
-    Allows,
-    Denies,
-}
-
-#[derive(Clone, Copy)]
-pub enum LineRead {
-    Says(Verdict),
-    Refused(Refusal),
-}
-
-// The first rule that hits, with its number from 1, or 0 for a superuser, and its permission; that none does; or the first refusal by number,
-// with its line.
-#[derive(Clone, Copy)]
-pub enum FirstHit {
-    Rule(usize, bool),
-    NoRule,
-    Faulty(Refusal, usize),
-}
-
-// When credentials expire: never, or at these seconds and nanoseconds.
-#[derive(Clone, Copy)]
-pub enum Expiry {
-    Never,
-    At(u64, u64),
-}
-
-#[derive(Clone, Copy)]
-pub enum ExpiryAnswer {
-    Expired(bool),
-    Refused(Refusal),
+// A time, in seconds and nanoseconds.
+#[derive(Clone, Copy, Debug, PartialEq, Eq, PartialOrd, Ord)]
+pub struct Time {
+    pub seconds: u64,
+    pub nanoseconds: u64,
 }

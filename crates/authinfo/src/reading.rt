@@ -1,157 +1,108 @@
 // What the rule of a line says to a question.
 ghost use Rattle.std.specs.Prelude.{◌≡◌, false};
-ghost use Rattle.rule.specs.Places.{given};
 ghost use Rattle.authinfo.specs.ClientRule as rule;
 ghost use Rattle.authinfo.specs.Decision as decision;
 ghost use Rattle.authinfo.specs.Places as spec;
 ghost use Rattle.authinfo.specs.OnePass as pass;
 
+use crate::client::Client;
 use crate::filling::topic_at;
 use crate::members::places_at;
 use crate::one_pass::in_one_pass;
 use crate::words::{action_at, permission_at};
-use crate::{
-    Action, ActionRead, Asked, LinePassed, LineRead, PermissionRead, QosRead, RuleParts,
-    RulePlaces, TopicRead, Verdict,
-};
-use json_text::access::{first_element, kind_at, next_item, number_value, plain_text};
+use crate::{Action, Asked, QOS, RuleParts, RulePlaces};
+use json_text::Kind;
+use json_text::access::{Elements, kind_at, number_value, plain_text};
 use json_text::values::{check, skip_blanks};
-use json_text::{Checked, Found, Kind, Place, Truth};
 use rule::listed::truth_at;
-use rule::{Given, LINE, Refusal, TEXT};
-
-const QOS: u64 = 2;
+use rule::{LINE, Refusal, TEXT};
 
 // One more number of a rule's QoS: "each modulo 256 and then 0 to 2".
-fn with_level(n: u64, asked: u64, takes: bool) -> QosRead
+#[tactic(auto, unfolding(crate::specs::Places::with_level))]
+fn with_level(n: u64, asked: u64, takes: bool) -> Option<bool>
     ensures { result ≡ spec.with_level asked takes n }
 {
     let level = n % 256;
     if QOS < level {
-        return QosRead::Bad;
+        return None;
     }
-    if level == asked {
-        return QosRead::Takes(true);
-    }
-    QosRead::Takes(takes)
+    Some(level == asked || takes)
 }
 
-// The numbers of the array whose first element this is; other elements are dropped.
-fn qos_list(line: &[u8], first: Place, asked: u64) -> QosRead
-    ensures { result ≡ spec.levels_from line.now asked first }
+// The numbers of the array at a place; other elements are dropped.
+fn qos_list(line: &[u8], at: usize, asked: u64) -> Option<bool>
+    ensures { result ≡ spec.levels_from line.now asked at }
 {
     let mut takes = false;
-    let mut next = first;
-    // How many elements may still come: each takes a byte of the line at least, so none is lost when this runs out.
-    let mut turns = line.len();
-    while turns > 0 {
-        let Place::At(p) = next else {
-            return QosRead::Takes(takes);
-        };
-        if let Found::Is(n) = number_value(line, p) {
-            let QosRead::Takes(now) = with_level(n, asked, takes) else {
-                return QosRead::Bad;
-            };
-            takes = now;
+    for p in Elements::new(line, at) {
+        if let Some(n) = number_value(line, p) {
+            takes = with_level(n, asked, takes)?;
         }
-        next = next_item(line, p);
-        turns -= 1;
     }
-    QosRead::Takes(takes)
+    Some(takes)
 }
 
 // The rule's QoS at a place: absent, a number or an array.
-fn qos_at(line: &[u8], at: Place, asked: u64) -> QosRead
+#[tactic(auto, unfolding(crate::specs::Places::qos_here, crate::specs::Places::one_level))]
+fn qos_at(line: &[u8], at: Option<usize>, asked: u64) -> Option<bool>
     ensures { result ≡ spec.qos_here line.now asked at }
 {
-    let Place::At(p) = at else {
-        return QosRead::Takes(true);
+    let Some(p) = at else {
+        return Some(true);
     };
     match kind_at(line, p) {
-        Kind::Array => qos_list(line, first_element(line, p), asked),
-        Kind::Number => match number_value(line, p) {
-            Found::Is(n) => with_level(n, asked, false),
-            Found::Absent => QosRead::Bad,
-        },
-        _ => QosRead::Bad,
+        Kind::Array => qos_list(line, p, asked),
+        Kind::Number => with_level(number_value(line, p)?, asked, false),
+        _ => None,
     }
 }
 
-// Do a rule's action and its retain, by its permission, take what is asked?
-fn takes_kind(allow: bool, action: Action, retain: Truth, asked: Asked) -> bool
+// Does a rule's retain, by its permission, take a publish that is retained or not?
+#[tactic(auto, unfolding(crate::specs::Decision::publish_retain))]
+fn takes_retain(allow: bool, retain: Option<bool>, retained: bool) -> bool
+    ensures { result ≡ decision.publish_retain allow retain retained }
+{
+    let Some(flag) = retain else {
+        return true;
+    };
+    if allow {
+        return flag || !retained;
+    }
+    flag == retained
+}
+
+// Do a rule's action and its retain take what is asked?
+#[tactic(auto, unfolding(crate::specs::Places::takes_kind, crate::specs::Decision::covers, crate::specs::Decision::retain_hits, crate::specs::Places::question_of))]
+fn takes_kind(allow: bool, action: Action, retain: Option<bool>, asked: Asked) -> bool
     ensures { result ≡ spec.takes_kind allow action retain asked }
 {
     match asked {
-        Asked::Subscribe(_) => match action {
-            Action::All => true,
-            Action::Subscribe => true,
-            Action::Publish => false,
-        },
-        Asked::Publish(_, retained) => {
-            if let Action::Subscribe = action {
-                return false;
-            }
-            match retain {
-                Truth::Unknown => true,
-                Truth::Holds(flag) => {
-                    if allow {
-                        return flag || !retained;
-                    }
-                    flag == retained
-                }
-            }
-        }
+        Asked::Subscribe(_) => action != Action::Publish,
+        Asked::Publish(_, retained) => action != Action::Subscribe
+            && takes_retain(allow, retain, retained),
     }
-}
-
-// The QoS that is asked for.
-pub fn asked_qos(asked: Asked) -> u64
-    ensures { result ≡ spec.qos_of_asked asked }
-{
-    match asked {
-        Asked::Subscribe(qos) => qos,
-        Asked::Publish(qos, _) => qos,
-    }
-}
-
-fn verdict(allow: bool, hits: bool) -> Verdict
-    ensures { result ≡ spec.verdict allow hits }
-{
-    if !hits {
-        return Verdict::Misses;
-    }
-    if allow {
-        return Verdict::Allows;
-    }
-    Verdict::Denies
 }
 
 // The closing quote of the string at a place, if it is plain.
-fn quote_at(line: &[u8], at: Place) -> Place
+#[tactic(auto, unfolding(crate::specs::OnePass::quote_at))]
+fn quote_at(line: &[u8], at: Option<usize>) -> Option<usize>
     ensures { result ≡ pass.quote_at line.now at }
 {
-    let Place::At(p) = at else {
-        return Place::Nowhere;
-    };
-    plain_text(line, p)
+    plain_text(line, at?)
 }
 
 // What the members at these places tell.
+#[tactic(auto, unfolding(crate::specs::OnePass::parts_at))]
 fn parts_at(line: &[u8], places: RulePlaces) -> RuleParts
     ensures { result ≡ pass.parts_at line.now places }
 {
-    let at_permission = places.permission;
-    let at_action = places.action;
-    let qos = places.qos;
-    let retain = places.retain;
-    let topic = places.topic;
     RuleParts {
-        permission: permission_at(line, at_permission),
-        action: action_at(line, at_action),
-        qos,
-        retain,
-        topic,
-        quote: quote_at(line, topic),
+        permission: permission_at(line, places.permission),
+        action: action_at(line, places.action),
+        qos: places.qos,
+        retain: places.retain,
+        topic: places.topic,
+        quote: quote_at(line, places.topic),
     }
 }
 
@@ -160,69 +111,44 @@ fn rule_says(
     line: &[u8],
     parts: RuleParts,
     asked: Asked,
-    id: &[u8],
-    name: Given,
-    names: &[u8],
+    client: &Client,
     topic: &[u8],
-) -> LineRead
-    requires names_value { decision.name_over (given name names.now) ≡ false }
+) -> Result<Option<bool>, Refusal>
+    requires names_value { decision.name_over client.now.name ≡ false }
     requires short_topic { spec.ShortTopic line.now parts.topic }
     requires quote_value { parts.quote ≡ pass.quote_at line.now parts.topic }
-    ensures { result ≡ pass.parts_say line.now parts asked id.now (given name names.now) topic.now }
+    ensures { result ≡ pass.parts_say line.now parts asked client.now.id client.now.name topic.now }
 {
-    let permission = parts.permission;
-    let PermissionRead::Is(allow) = permission else {
-        return LineRead::Refused(Refusal::NotARule);
-    };
-    let covered = parts.action;
-    let ActionRead::Is(action) = covered else {
-        return LineRead::Refused(Refusal::NotARule);
-    };
-    let at_qos = parts.qos;
-    let QosRead::Takes(level) = qos_at(line, at_qos, asked_qos(asked)) else {
-        return LineRead::Refused(Refusal::NotARule);
-    };
-    let at_topic = parts.topic;
-    let Place::At(p) = at_topic else {
-        return LineRead::Refused(Refusal::NotARule);
-    };
-    let quote = parts.quote;
-    match topic_at(line, p, quote, id, name, names, topic) {
-        TopicRead::Refused(cause) => LineRead::Refused(cause),
-        TopicRead::Takes(taken) => {
-            let at_retain = parts.retain;
-            let kind = takes_kind(allow, action, truth_at(line, at_retain), asked);
-            LineRead::Says(verdict(allow, level && kind && taken))
-        }
-    }
+    let allow = parts.permission.ok_or(Refusal::NotARule)?;
+    let action = parts.action.ok_or(Refusal::NotARule)?;
+    let level = qos_at(line, parts.qos, asked.qos()).ok_or(Refusal::NotARule)?;
+    let p = parts.topic.ok_or(Refusal::NotARule)?;
+    let taken = topic_at(line, p, parts.quote, client, topic)?;
+    let kind = takes_kind(allow, action, truth_at(line, parts.retain), asked);
+    let hits = level && kind && taken;
+    Ok(hits.then_some(allow))
 }
 
 // What the line's rule says, or the first refusal in document 01's order.
 pub(crate) fn line_says(
     line: &[u8],
     asked: Asked,
-    id: &[u8],
-    name: Given,
-    names: &[u8],
+    client: &Client,
     topic: &[u8],
-) -> LineRead
-    requires { decision.name_over (given name names.now) ≡ false }
-    ensures { result ≡ spec.line_says (spec.question_of asked topic.now) (rule.read_line id.now (given name names.now) line.now) }
+) -> Result<Option<bool>, Refusal>
+    requires { decision.name_over client.now.name ≡ false }
+    ensures { result ≡ spec.line_says (spec.question_of asked topic.now) (rule.read_line client.now.id client.now.name line.now) }
 {
     if LINE < line.len() {
-        return LineRead::Refused(Refusal::TooLong);
+        return Err(Refusal::TooLong);
     }
-    if let LinePassed::Parts(parts) = in_one_pass(line) {
-        return rule_says(line, parts, asked, id, name, names, topic);
+    if let Some(parts) = in_one_pass(line) {
+        return rule_says(line, parts, asked, client, topic);
     }
-    match check(line) {
-        Checked::Invalid => LineRead::Refused(Refusal::NotJson),
-        Checked::Valid(longest) => {
-            if TEXT < longest {
-                return LineRead::Refused(Refusal::TooLong);
-            }
-            let places = places_at(line, skip_blanks(line, 0));
-            rule_says(line, parts_at(line, places), asked, id, name, names, topic)
-        }
+    let longest = check(line).ok_or(Refusal::NotJson)?;
+    if TEXT < longest {
+        return Err(Refusal::TooLong);
     }
+    let places = places_at(line, skip_blanks(line, 0));
+    rule_says(line, parts_at(line, places), asked, client, topic)
 }

@@ -2,35 +2,24 @@
 ghost use Rattle.std.specs.Prelude.{◌≡◌};
 ghost use Rattle.authinfo.specs.Expiry as spec;
 
-use crate::{Expiry, ExpiryAnswer};
+use crate::Time;
 use rule::Refusal;
 
 const NANOSECONDS: u64 = 999_999_999;
 
-// Does the first time lie before the second?
-fn below(s: u64, n: u64, seconds: u64, nanoseconds: u64) -> bool
-    ensures { result ≡ spec.below s n seconds nanoseconds }
+// "Expired: expiry below now; equal isn't; none never."
+#[tactic(auto, unfolding(crate::specs::Expiry::expiry_says, crate::specs::Expiry::expiry, crate::specs::Expiry::over_nanoseconds, crate::specs::Expiry::expiry_over, crate::specs::Expiry::is_expired, crate::specs::Expiry::below, rule::specs::Refusals::number))]
+pub fn expired(expiry: Option<Time>, now: Time) -> Result<bool, Refusal>
+    ensures { spec.expiry_says result ≡ spec.expiry expiry now }
 {
-    if s == seconds {
-        return n < nanoseconds;
+    if NANOSECONDS < now.nanoseconds {
+        return Err(Refusal::OutOfRange);
     }
-    s < seconds
-}
-
-// "Expired: expiry below now; equal isn't; none never." Now is given in seconds and nanoseconds.
-pub fn expired(expiry: Expiry, seconds: u64, nanoseconds: u64) -> ExpiryAnswer
-    ensures { spec.expiry_says result ≡ spec.expiry expiry seconds nanoseconds }
-{
-    if NANOSECONDS < nanoseconds {
-        return ExpiryAnswer::Refused(Refusal::OutOfRange);
+    let Some(expiry) = expiry else {
+        return Ok(false);
+    };
+    if NANOSECONDS < expiry.nanoseconds {
+        return Err(Refusal::OutOfRange);
     }
-    match expiry {
-        Expiry::Never => ExpiryAnswer::Expired(false),
-        Expiry::At(s, n) => {
-            if NANOSECONDS < n {
-                return ExpiryAnswer::Refused(Refusal::OutOfRange);
-            }
-            ExpiryAnswer::Expired(below(s, n, seconds, nanoseconds))
-        }
-    }
+    Ok(expiry < now)
 }

@@ -3,7 +3,7 @@ use Prim.Native.Nat.{ℕ}
 use mathlib.Core.Path.{◌≡◌, refl}
 use mathlib.Core.Bool.{Bool, true, false, cond, not-and_self, beq}
 use mathlib.Core.List.{List, [], ◌∷◌}
-use mathlib.Core.Option.{Option, none, some}
+use Rattle.std.specs.Prelude.{Option, None, Some}
 use native.Mathlib.Omega.{arith}
 use borrow.Author.Tests.{ltb-false, lt-leb}
 use lib.Dec.{leb, ltb}
@@ -21,11 +21,11 @@ use Rattle.store.proofs.LayoutLaws.{filter_rows_lem, eq_rows_lem, note_rows_lem,
 use Rattle.events.specs.Event.{Event, connected, disconnected, ended, argument_causes, filled_filters, filled_eqs, filter_rows, eq_rows, note_rows, filter_change, new_eqs, note_change, effect, store_causes, cause}
 
 -- where no cause holds, the first doesn't and the others don't
-pub no_cause : (c : Bool × ℕ) (causes : List (Bool × ℕ)) → first (c ∷ causes) ≡ none → (c.0 ≡ false) × (first causes ≡ none)
+pub no_cause : (c : Bool × ℕ) (causes : List (Bool × ℕ)) → first (c ∷ causes) ≡ None → (c.0 ≡ false) × (first causes ≡ None)
 unfolding first
 no_cause c causes = at c.0
   where
-    at : (b : Bool) → cond b (some c.1) (first causes) ≡ none → (b ≡ false) × (first causes ≡ none)
+    at : (b : Bool) → cond b (Some c.1) (first causes) ≡ None → (b ≡ false) × (first causes ≡ None)
     at true e = let z : ◌≡◌ {A = ℕ} 0 1 = cc in absurd (omega arith)
     at false e = (refl, e)
 
@@ -84,7 +84,7 @@ abbrev dropped : {Row : Type 0} → Change Row → Row → Bool
 dropped (adds rows) r = false
 dropped (drops test) r = test r
 
-effect_sound : (e : Event) (v : View) → WellFormed v → cause e (some v) ≡ none → WellFormed (effect e v)
+effect_sound : (e : Event) (v : View) → WellFormed v → cause e (Some v) ≡ None → WellFormed (effect e v)
 unfolding effect filter_change new_eqs note_change cause argument_causes store_causes change add_all
 effect_sound (connected session id name) v wf h =
     let c1 = no_cause _ _ h in
@@ -105,5 +105,5 @@ effect_sound (ended session) v wf h =
     record { head = wf.head; filters = wf.filters; eqs = wf.eqs; notes = sound-drops note_rows_lem wf.notes (dropped (note_change (ended session) v.text)) }
 
 -- an accepted event leaves a view that is as laid out
-pub effect-well_formed : (e : Event) (v : View) → well_formed v ≡ true → cause e (some v) ≡ none → well_formed (effect e v) ≡ true
+pub effect-well_formed : (e : Event) (v : View) → well_formed v ≡ true → cause e (Some v) ≡ None → well_formed (effect e v) ≡ true
 effect-well_formed e v w h = well_formed_made (effect e v) (effect_sound e v (well_formed_parts v w) h)

@@ -3,7 +3,8 @@ use Prim.Native.Nat.{ℕ}
 use mathlib.Core.Path.{◌≡◌, refl}
 use mathlib.Core.Bool.{Bool, true, false}
 use mathlib.Core.List.{List, [], ◌∷◌}
-use mathlib.Core.Option.{none, bind}
+use Rattle.std.specs.Prelude.{None}
+use Rattle.text.specs.Maybe.{bind}
 use Rattle.text.specs.Ascii.{ascii}
 use Rattle.text.specs.Text.{same, begins, contains, occurs, replace_from, replace}
 use Rattle.topic.specs.Topic.{extend_first, with_byte, levels, is_only, wildcard_free, valid_levels, valid_filter, metadata, ends, takes_level, takes, dollar_rule, levels_match, levels_if, checked_levels, tree_match}
@@ -35,12 +36,12 @@ opened =
 
 abbrev events : List Event
 events =
-    connected 1 (ascii "a") none
-    ∷ connected 2 (ascii "b") none
+    connected 1 (ascii "a") None
+    ∷ connected 2 (ascii "b") None
     ∷ disconnected 1 (ascii "a")
-    ∷ connected 2 (ascii "b") none
+    ∷ connected 2 (ascii "b") None
     ∷ ended 1
-    ∷ connected 2 (ascii "b") none
+    ∷ connected 2 (ascii "b") None
     ∷ ended 256
     ∷ []
 

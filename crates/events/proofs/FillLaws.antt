@@ -4,7 +4,7 @@ use Prim.Native.Nat.{ℕ, suc, ◌*◌, ◌-◌, ◌≤◌, ◌<◌}
 use mathlib.Core.Path.{◌≡◌, refl, sym, ap, ◌∙◌}
 use mathlib.Core.Bool.{Bool, true, false, ◌&&◌, ◌||◌, cond, beq}
 use mathlib.Core.List.{List, [], ◌∷◌, ◌++◌, map, append_assoc, append-nil}
-use mathlib.Core.Option.{Option, none, some}
+use Rattle.std.specs.Prelude.{Option, None, Some}
 use native.Mathlib.Omega.{arith}
 use borrow.Author.Tests.{le-ltb, ltb-false, leb-true, leb-false}
 use lib.Dec.{leb}
@@ -25,8 +25,6 @@ use Rattle.store.proofs.LayoutLaws.{Reads, area-length, long_filter, long_eq, lo
 use Rattle.store.proofs.AreaLaws.{present_told, added_told, full_told, push_area, add_good, restore_area, Appends, add_all-appends}
 use Rattle.events.specs.Pushes.{filter_bytes, numbered_bytes, pushes_answer, pushes, filter_in, eq_in, filled_bytes, all_answer, all_pushed}
 use Rattle.events.specs.declared.Table.TheVariants.{Filters, Eqs, Notes}
-use Rattle.events.specs.declared.PushedAll.{PushedAll}
-use Rattle.events.specs.declared.PushedAll.TheVariants.{Used, Full as AllFull}
 use Rattle.events.proofs.TemplateWalk.{is_long}
 use Rattle.events.proofs.PushLaws.{filter_bytes_lem, no_filter_bytes, all_present, all_added, all_full, Alike, same_alike}
 
@@ -52,7 +50,7 @@ alike-cons row {rows} {rows₁} e = record { come = λ used part. at used part (
         let other = all_full row rows₁ used part q in
         (one.0 ∙ sym other.0, one.1 ∙ sym other.1)
 
-alike-none : (rows : List (Option (List ℕ))) → Alike (none ∷ rows) rows
+alike-none : (rows : List (Option (List ℕ))) → Alike (None ∷ rows) rows
 unfolding all_answer all_pushed pushes_answer pushes
 alike-none rows = record { come = λ used part. (refl, refl) }
 
@@ -61,14 +59,14 @@ alike_then e f = record { come = λ used part. ((e.come used part).0 ∙ (f.come
 
 -- rows as they are pushed
 abbrev pub puts : {Row : Type 0} → Codec Row → List Row → List (Option (List ℕ))
-puts c rs = map (λ r. some (c.put r)) rs
+puts c rs = map (λ r. Some (c.put r)) rs
 
 -- a text that is not over 256 is written whole
-numbered_bytes_lem : (n : ℕ) (text : List ℕ) → length text ≤ text_limit → numbered_bytes n text ≡ some (eq_codec.put (record { rule = n; text = text }))
+numbered_bytes_lem : (n : ℕ) (text : List ℕ) → length text ≤ text_limit → numbered_bytes n text ≡ Some (eq_codec.put (record { rule = n; text = text }))
 unfolding numbered_bytes
-numbered_bytes_lem n text h = λ i. some (eq_codec.put (record { rule = n; text = take_all text_limit text h i }))
+numbered_bytes_lem n text h = λ i. Some (eq_codec.put (record { rule = n; text = take_all text_limit text h i }))
 
-note_bytes : (n : ℕ) (text : List ℕ) → length text ≤ text_limit → numbered_bytes n text ≡ some (note_codec.put (record { session = n; text = text }))
+note_bytes : (n : ℕ) (text : List ℕ) → length text ≤ text_limit → numbered_bytes n text ≡ Some (note_codec.put (record { session = n; text = text }))
 unfolding numbered_codec
 note_bytes n text h = numbered_bytes_lem n text h
 
@@ -97,13 +95,13 @@ module _ (session : ℕ) (id : List ℕ) where
     where
       at : (b w : Bool) → valid_filter f.text ≡ w → length f.text ≤ text_limit
           → Alike (map (filled_bytes Filters session id) fs) (puts filter_codec (map filter_row (keep valid (of_kind false fs))))
-          → Alike (cond b none (filter_bytes f.rule f.text id) ∷ map (filled_bytes Filters session id) fs)
+          → Alike (cond b None (filter_bytes f.rule f.text id) ∷ map (filled_bytes Filters session id) fs)
           (puts filter_codec (map filter_row (keep valid (cond (beq b false) (f ∷ of_kind false fs) (of_kind false fs)))))
       at true w q k ih = alike_then (alike-none (map (filled_bytes Filters session id) fs)) ih
       at false true q k ih =
-          let bytes = filter_bytes_lem f.rule f.text id q ∙ (λ i. some (filter_codec.put (record { rule = f.rule; text = take_all text_limit f.text k i; owner = take_all id_limit id h i }))) in
+          let bytes = filter_bytes_lem f.rule f.text id q ∙ (λ i. Some (filter_codec.put (record { rule = f.rule; text = take_all text_limit f.text k i; owner = take_all id_limit id h i }))) in
           let kept = ap (λ b. puts filter_codec (map filter_row (cond b (f ∷ keep valid (of_kind false fs)) (keep valid (of_kind false fs))))) (sym q) in
-          alike_then (same_alike (ap (λ r. r ∷ map (filled_bytes Filters session id) fs) bytes)) (alike_then (alike-cons (some (filter_codec.put (filter_row f))) ih) (same_alike kept))
+          alike_then (same_alike (ap (λ r. r ∷ map (filled_bytes Filters session id) fs) bytes)) (alike_then (alike-cons (Some (filter_codec.put (filter_row f))) ih) (same_alike kept))
       at false false q k ih =
           let kept = ap (λ b. puts filter_codec (map filter_row (cond b (f ∷ keep valid (of_kind false fs)) (keep valid (of_kind false fs))))) (sym q) in
           alike_then (same_alike (ap (λ r. r ∷ map (filled_bytes Filters session id) fs) (no_filter_bytes f.rule f.text id q)))
@@ -115,10 +113,10 @@ module _ (session : ℕ) (id : List ℕ) where
   new_eqs_lem (f ∷ fs) e = let s = short_text f fs e in at f.eq s.0 (new_eqs_lem fs s.1)
     where
       at : (b : Bool) → length f.text ≤ text_limit → Alike (map (filled_bytes Eqs session id) fs) (puts eq_codec (map eq_row (of_kind true fs)))
-          → Alike (cond b (numbered_bytes f.rule f.text) none ∷ map (filled_bytes Eqs session id) fs)
+          → Alike (cond b (numbered_bytes f.rule f.text) None ∷ map (filled_bytes Eqs session id) fs)
           (puts eq_codec (map eq_row (cond (beq b true) (f ∷ of_kind true fs) (of_kind true fs))))
       at true k ih =
-          alike_then (same_alike (ap (λ r. r ∷ map (filled_bytes Eqs session id) fs) (numbered_bytes_lem f.rule f.text k))) (alike-cons (some (eq_codec.put (eq_row f))) ih)
+          alike_then (same_alike (ap (λ r. r ∷ map (filled_bytes Eqs session id) fs) (numbered_bytes_lem f.rule f.text k))) (alike-cons (Some (eq_codec.put (eq_row f))) ih)
       at false k ih = alike_then (alike-none (map (filled_bytes Eqs session id) fs)) ih
 
   pub new_notes : (fs : List Filled) → some_row is_long fs ≡ false → Alike (map (filled_bytes Notes session id) fs) (puts note_codec (map note_row (of_kind false fs)))
@@ -127,11 +125,11 @@ module _ (session : ℕ) (id : List ℕ) where
   new_notes (f ∷ fs) e = let s = short_text f fs e in at f.eq s.0 (new_notes fs s.1)
     where
       at : (b : Bool) → length f.text ≤ text_limit → Alike (map (filled_bytes Notes session id) fs) (puts note_codec (map note_row (of_kind false fs)))
-          → Alike (cond b none (numbered_bytes session f.text) ∷ map (filled_bytes Notes session id) fs)
+          → Alike (cond b None (numbered_bytes session f.text) ∷ map (filled_bytes Notes session id) fs)
           (puts note_codec (map note_row (cond (beq b false) (f ∷ of_kind false fs) (of_kind false fs))))
       at true k ih = alike_then (alike-none (map (filled_bytes Notes session id) fs)) ih
       at false k ih =
-          alike_then (same_alike (ap (λ r. r ∷ map (filled_bytes Notes session id) fs) (note_bytes session f.text k))) (alike-cons (some (note_codec.put (note_row f))) ih)
+          alike_then (same_alike (ap (λ r. r ∷ map (filled_bytes Notes session id) fs) (note_bytes session f.text k))) (alike-cons (Some (note_codec.put (note_row f))) ih)
 
   -- none of them is too long
   kind_short : (b : Bool) (fs : List Filled) → some_row is_long fs ≡ false → some_row is_long (of_kind b fs) ≡ false
@@ -188,30 +186,30 @@ module _ {Row : Type 0} {c : Codec Row} {bad : Row → Bool} {same_row : Row →
             × (all_pushed (puts c (r ∷ new)) (length rs) (area c room rs) ≡ all_pushed (puts c new) (length (add same_row r rs)) (area c room (add same_row r rs)))
         at Present e =
             let count = ap length (sym (present_told R E room rs good fits r g size refl e)) in
-            let step = all_present (some (c.put r)) (puts c new) (length rs) (area c room rs) e in
+            let step = all_present (Some (c.put r)) (puts c new) (length rs) (area c room rs) e in
             (step.0 ∙ (λ i. all_answer (puts c new) (count i) (left i)), step.1 ∙ (λ i. all_pushed (puts c new) (count i) (left i)))
         at Added e =
             let told = added_told R E room rs good fits r g size refl e in
             let count : suc (length rs) ≡ length (add same_row r rs) = omega (arith, ap length told.0, length-append rs (r ∷ [])) in
-            let step = all_added (some (c.put r)) (puts c new) (length rs) (area c room rs) e in
+            let step = all_added (Some (c.put r)) (puts c new) (length rs) (area c room rs) e in
             (step.0 ∙ (λ i. all_answer (puts c new) (count i) (left i)), step.1 ∙ (λ i. all_pushed (puts c new) (count i) (left i)))
         at Full e = absurd (omega (arith, full_told R E room rs good fits r g size refl e))
 
     area_stop : room < length (add same_row r rs)
-        → (all_answer (puts c (r ∷ new)) (length rs) (area c room rs) ≡ AllFull) × (all_pushed (puts c (r ∷ new)) (length rs) (area c room rs) ≡ area c room rs)
+        → (all_answer (puts c (r ∷ new)) (length rs) (area c room rs) ≡ None) × (all_pushed (puts c (r ∷ new)) (length rs) (area c room rs) ≡ area c room rs)
     unfolding pushes_answer pushes
     area_stop h = at (push_answer (c.put r) (length rs) (area c room rs)) refl
       where
         at : (a : Pushed) → push_answer (c.put r) (length rs) (area c room rs) ≡ a
-            → (all_answer (puts c (r ∷ new)) (length rs) (area c room rs) ≡ AllFull) × (all_pushed (puts c (r ∷ new)) (length rs) (area c room rs) ≡ area c room rs)
+            → (all_answer (puts c (r ∷ new)) (length rs) (area c room rs) ≡ None) × (all_pushed (puts c (r ∷ new)) (length rs) (area c room rs) ≡ area c room rs)
         at Present e = absurd (omega (arith, ap length (present_told R E room rs good fits r g size refl e)))
         at Added e =
             let told = added_told R E room rs good fits r g size refl e in
             absurd (omega (arith, told.1, ap length told.0, length-append rs (r ∷ [])))
-        at Full e = all_full (some (c.put r)) (puts c new) (length rs) (area c room rs) e
+        at Full e = all_full (Some (c.put r)) (puts c new) (length rs) (area c room rs) e
 
   area_used : (new rs : List Row) → some_row bad new ≡ false → some_row bad rs ≡ false → length rs ≤ room → length (add_all same_row new rs) ≤ room
-      → (all_answer (puts c new) (length rs) (area c room rs) ≡ Used (length (add_all same_row new rs)))
+      → (all_answer (puts c new) (length rs) (area c room rs) ≡ Some (length (add_all same_row new rs)))
       × (all_pushed (puts c new) (length rs) (area c room rs) ≡ area c room (add_all same_row new rs))
   unfolding add_all all_answer all_pushed some_row
   area_used [] rs e good fits h = (refl, refl)
@@ -224,7 +222,7 @@ module _ {Row : Type 0} {c : Codec Row} {bad : Row → Bool} {same_row : Row →
       (step.0 ∙ more.0, step.1 ∙ more.1)
 
   area_full : (new rs : List Row) → some_row bad new ≡ false → some_row bad rs ≡ false → length rs ≤ room → room < length (add_all same_row new rs)
-      → (all_answer (puts c new) (length rs) (area c room rs) ≡ AllFull) × Stopped c bad room rs (all_pushed (puts c new) (length rs) (area c room rs))
+      → (all_answer (puts c new) (length rs) (area c room rs) ≡ None) × Stopped c bad room rs (all_pushed (puts c new) (length rs) (area c room rs))
   unfolding add_all some_row
   area_full [] rs e good fits h = absurd (omega arith)
   area_full (r ∷ new) rs e good fits h =
@@ -234,9 +232,9 @@ module _ {Row : Type 0} {c : Codec Row} {bad : Row → Bool} {same_row : Row →
     where
       at : (b : Bool) → leb (length (add same_row r rs)) room ≡ b → bad r ≡ false
           → (length (add same_row r rs) ≤ room
-          → (all_answer (puts c new) (length (add same_row r rs)) (area c room (add same_row r rs)) ≡ AllFull)
+          → (all_answer (puts c new) (length (add same_row r rs)) (area c room (add same_row r rs)) ≡ None)
           × Stopped c bad room (add same_row r rs) (all_pushed (puts c new) (length (add same_row r rs)) (area c room (add same_row r rs))))
-          → (all_answer (puts c (r ∷ new)) (length rs) (area c room rs) ≡ AllFull) × Stopped c bad room rs (all_pushed (puts c (r ∷ new)) (length rs) (area c room rs))
+          → (all_answer (puts c (r ∷ new)) (length rs) (area c room rs) ≡ None) × Stopped c bad room rs (all_pushed (puts c (r ∷ new)) (length rs) (area c room rs))
       at true q g onward =
           let within = leb-true (length (add same_row r rs)) room q in
           let step = area_step r new rs g good fits within in
@@ -266,12 +264,12 @@ module _ {Row : Type 0} {c : Codec Row} {bad : Row → Bool} {same_row : Row →
           )
 
   module _ (new rs : List Row) (short : some_row bad new ≡ false) (good : some_row bad rs ≡ false) (fits : length rs ≤ room) {rows : List (Option (List ℕ))}
-      (alike : Alike rows (puts c new)) {answer : PushedAll} (told : answer ≡ all_answer rows (length rs) (area c room rs)) where
+      (alike : Alike rows (puts c new)) {answer : Option ℕ} (told : answer ≡ all_answer rows (length rs) (area c room rs)) where
     answered : answer ≡ all_answer (puts c new) (length rs) (area c room rs)
     answered = told ∙ (alike.come (length rs) (area c room rs)).0
 
     -- what an answer tells
-    pub used_told : {n : ℕ} → answer ≡ Used n
+    pub used_told : {n : ℕ} → answer ≡ Some n
         → (length (add_all same_row new rs) ≤ room) × (n ≡ length (add_all same_row new rs)) × (all_pushed rows (length rs) (area c room rs) ≡ area c room (add_all same_row new rs))
     used_told {n} e = at (leb (length (add_all same_row new rs)) room) refl
       where
@@ -280,21 +278,21 @@ module _ {Row : Type 0} {c : Codec Row} {bad : Row → Bool} {same_row : Row →
         at true q =
             let within = leb-true (length (add_all same_row new rs)) room q in
             let all = area_used new rs short good fits within in
-            let same : Used n ≡ Used (length (add_all same_row new rs)) = sym e ∙ (answered ∙ all.0) in
+            let same : Some n ≡ Some (length (add_all same_row new rs)) = sym e ∙ (answered ∙ all.0) in
             (within, cc, (alike.come (length rs) (area c room rs)).1 ∙ all.1)
         at false q =
             let all = area_full new rs short good fits (leb-false (length (add_all same_row new rs)) room q) in
-            let same : Used n ≡ AllFull = sym e ∙ (answered ∙ all.0) in
+            let same : Some n ≡ None = sym e ∙ (answered ∙ all.0) in
             let z : ◌≡◌ {A = ℕ} 0 1 = cc in absurd (omega arith)
 
-    pub stopped_told : answer ≡ AllFull → (room < length (add_all same_row new rs)) × Stopped c bad room rs (all_pushed rows (length rs) (area c room rs))
+    pub stopped_told : answer ≡ None → (room < length (add_all same_row new rs)) × Stopped c bad room rs (all_pushed rows (length rs) (area c room rs))
     stopped_told e = at (leb (length (add_all same_row new rs)) room) refl
       where
         at : (b : Bool) → leb (length (add_all same_row new rs)) room ≡ b
             → (room < length (add_all same_row new rs)) × Stopped c bad room rs (all_pushed rows (length rs) (area c room rs))
         at true q =
             let all = area_used new rs short good fits (leb-true (length (add_all same_row new rs)) room q) in
-            let same : AllFull ≡ Used (length (add_all same_row new rs)) = sym e ∙ (answered ∙ all.0) in
+            let same : None ≡ Some (length (add_all same_row new rs)) = sym e ∙ (answered ∙ all.0) in
             let z : ◌≡◌ {A = ℕ} 0 1 = cc in absurd (omega arith)
         at false q =
             let beyond = leb-false (length (add_all same_row new rs)) room q in

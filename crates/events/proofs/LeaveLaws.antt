@@ -3,38 +3,36 @@ use Prim.Native.Nat.{ℕ, zero, suc, ◌+◌, ◌-◌, ◌*◌, ◌≤◌, ◌<�
 use mathlib.Core.Path.{◌≡◌, refl, sym, ap, ◌∙◌}
 use mathlib.Core.Bool.{Bool, true, false, ◌&&◌, not, cond, and-false}
 use mathlib.Core.List.{List, [], ◌∷◌, ◌++◌, map, append_assoc, append-nil}
-use mathlib.Core.Option.{none, some}
-use native.Mathlib.Nat.{zero-mul}
-use native.Mathlib.Numerals.{add-one}
+use Rattle.std.specs.Prelude.{None, Some, Option, Result, Ok, Err}
+use native.Mathlib.Nat.{mul-le-mul_right, mul_comm, mul-sub}
 use native.Mathlib.Omega.{arith}
 use borrow.Author.Tests.{eq-eqb, ne_eqb, lt-ltb, le-ltb}
-use lib.Dec.{eqb, leb}
-use lib.ListN.{length, take, drop, set, length-drop, length-set, length-map, take-append-drop, drop_of_length-le}
-use lib.Seq.{drop-drop, take_at, take-suc-set, drop-set-lt}
+use lib.Dec.{leb}
+use lib.ListN.{length, take, drop, replicate, length-drop, length-map, take-append-drop, drop_of_length-le, replicate-append-replicate}
+use lib.Seq.{drop-drop, drop-append-le, length-take-le}
+use Rattle.std.proofs.lemmas.List.{drop-take, take-take}
 use Rattle.text.specs.Text.{same, pasted}
+use Rattle.text.proofs.Laws.{or_split}
 use Rattle.topic.specs.Topic.{levels, levels_if, checked_levels, levels_match, valid_filter, tree_match}
 use Rattle.topic.specs.Walk.{begins_apart}
 use Rattle.topic.proofs.Apart.{apart_no_match}
 use Rattle.table.specs.Table.{some_row, keep, add_all, change}
-use Rattle.table.specs.Bytes.{u16, number, rows, unmarked, kept, removed}
+use Rattle.table.specs.Bytes.{u16, number, rows, join, left, closed_up}
 use Rattle.rule.specs.Refusals.{number as refusal, first}
 use Rattle.rule.specs.declared.Refusal.{Refusal}
 use Rattle.rule.specs.declared.Refusal.TheVariants.{TooLong, OutOfRange, Malformed as Unread}
 use Rattle.store.specs.declared.Shape.{Shape}
-use Rattle.store.specs.declared.ShapeRead.{ShapeRead}
-use Rattle.store.specs.declared.ShapeRead.TheVariants.{Malformed}
 use Rattle.store.specs.Store.{store_length, NoteRow, View}
-use Rattle.store.specs.Layout.{Codec, filter_text, filter_owner, filter_codec, numbered_text, numbered_codec, note_codec, area, layout, filters_at, eqs_at, notes_at}
+use Rattle.store.specs.Layout.{pad, put_all, Codec, filter_text, filter_owner, filter_codec, numbered_text, numbered_codec, note_codec, area, layout, filters_at, eqs_at, notes_at}
 use Rattle.store.specs.View.{well_formed, view}
 use Rattle.store.specs.Check.{shape_of}
-use Rattle.store.proofs.LayoutLaws.{Reads, note_reads, filter_reads, filter_area, note_area, layout-length, well_formed-fits}
+use Rattle.table.proofs.TableLaws.{length-keep}
+use Rattle.store.proofs.LayoutLaws.{Reads, note_reads, filter_reads, filter_area, note_area, layout-length, well_formed-fits, put_all-length, area-rows, area_unused}
 use Rattle.store.proofs.ViewLaws.{view_of_layout}
-use Rattle.store.proofs.AreaLaws.{remove_count, remove_area, with_filters, with_notes}
-use Rattle.store.proofs.PartLaws.{rows_from, rows_more, rows_none, filter_stretch, note_stretch, filters_read, notes_read, Shaped, shaped}
+use Rattle.store.proofs.AreaLaws.{kept_good, with_filters, with_notes}
+use Rattle.store.proofs.PartLaws.{filter_stretch, note_stretch, notes_read, Shaped, shaped}
 use Rattle.events.specs.Event.{Event, disconnected, ended, argument_causes, of_session, clears, cleared, filter_change, new_eqs, note_change, effect, store_causes, cause, stored, after, says}
-use Rattle.events.specs.Marks.{filter_row, filter_rows_in, note_rows_in, marked}
-use Rattle.events.specs.declared.EventAnswer.{EventAnswer}
-use Rattle.events.specs.declared.EventAnswer.TheVariants.{Done, Refused}
+use Rattle.events.specs.Leaving.{filter_row, note_row, note_rows_in}
 use Rattle.events.proofs.StoreLaws.{argument_caused, malformed_caused}
 
 -- ---- a note by its number and its text
@@ -74,71 +72,7 @@ module _ (session : ℕ) (id row : List ℕ) (notes : List NoteRow) {owner : Lis
   unfolding cleared filter_row filter_codec
   row_other q = rw (← o, ← s, q)
 
--- ---- marks
-
--- marks of which the first `i` are set: the others are still to be set for these rows
-unfoldable pub marked_from : {Row : Type 0} → (Row → Bool) → ℕ → List Row → List ℕ → List ℕ
-marked_from test i rest marks = take i marks ++ marked test rest (drop i marks)
-
-mark_one : {Row : Type 0} (test : Row → Bool) (i : ℕ) (r : Row) (rest : List Row) (marks : List ℕ) {b : Bool} → i < length marks → test r ≡ b
-    → marked_from test i (r ∷ rest) marks ≡ marked_from test (i + 1) rest (set marks i (cond b 1 0))
-unfolding marked_from marked
-mark_one test i r rest marks {b} h e =
-    let place : i + suc (length rest) ≡ suc i + length rest = omega arith in
-    rw (
-      e,
-      add-one i,
-      take-suc-set marks i (cond b 1 0) h,
-      drop-set-lt (suc i) marks i (cond b 1 0) (omega arith),
-      append_assoc,
-      drop-drop (suc (length rest)) i marks,
-      drop-drop (length rest) (suc i) marks,
-      place,
-    )
-
--- the state of a loop that sets marks, which were `before`, for the rows of a part: `i` rows are passed, up to `at`
-pub record Marking {Row : Type 0} (c : Codec Row) (test : Row → Bool) (s before marks : List ℕ) (at i : ℕ) : Type 0 where
-  pub within : at ≤ length s
-  pub passed : i * c.size ≡ at
-  pub lengths : length marks ≡ length before
-  pub whole : marked_from test i (rows_from c at s) marks ≡ marked test (rows_from c 0 s) before
-
-pub marking_none : {Row : Type 0} (c : Codec Row) (test : Row → Bool) (s before : List ℕ) → Marking c test s before before 0 0
-unfolding marked_from
-marking_none c test s before = record { within = omega arith; passed = zero-mul c.size; lengths = refl; whole = refl }
-
-module _ {Row : Type 0} {c : Codec Row} {test : Row → Bool} {s before marks : List ℕ} {at i : ℕ} (w : Marking c test s before marks at i) where
-  pub marking_more : {b : Bool} {marks₁ : List ℕ} → 0 < c.size → at + c.size ≤ length s → i < length marks
-      → test (c.get (take (at + c.size - at) (drop at s))) ≡ b → marks₁ ≡ set marks i (cond b 1 0)
-      → Marking c test s before marks₁ (at + c.size) (i + 1)
-  marking_more {b} h k l e q =
-      rw q
-      (record {
-        within = k;
-        passed = omega (arith, w.passed);
-        lengths = length-set marks i (cond b 1 0) ∙ w.lengths;
-        whole =
-            sym (mark_one test i (c.get (take (at + c.size - at) (drop at s))) (rows_from c (at + c.size) s) marks l e)
-            ∙ (ap (λ (rest : List Row). marked_from test i rest marks) (sym (rows_more c at s h k)) ∙ w.whole);
-      })
-
-  -- no row is left
-  pub marking_end : length s - at < c.size → marks ≡ marked test (rows_from c 0 s) before
-  marking_end h =
-      let all : marked_from test i [] marks ≡ marks = unfold marked_from marked in take-append-drop i marks in
-      sym (ap (λ (rest : List Row). marked_from test i rest marks) (rows_none c at s h) ∙ all) ∙ w.whole
-
 -- ---- the rows that stay
-
-unmarked_few : (marks : List ℕ) (rs : List (List ℕ)) → length (unmarked marks rs) ≤ length rs
-unfolding unmarked
-unmarked_few marks [] = omega arith
-unmarked_few [] (r ∷ rs) = omega arith
-unmarked_few (m ∷ marks) (r ∷ rs) = at (eqb m 0) (unmarked_few marks rs)
-  where
-    at : (b : Bool) → length (unmarked marks rs) ≤ length rs → length (cond b (r ∷ unmarked marks rs) (unmarked marks rs)) ≤ suc (length rs)
-    at true h = omega arith
-    at false h = omega arith
 
 rows_few : (size n : ℕ) (s : List ℕ) → length (rows size n s) ≤ n
 unfolding rows
@@ -149,68 +83,102 @@ rows_few size (suc n) s = at (leb size (length s)) (rows_few size n (drop size s
     at true h = omega arith
     at false h = omega arith
 
-pub stay_few : {stay : ℕ} (size used : ℕ) (marks s : List ℕ) → stay ≡ length (kept size used marks s) → stay ≤ used
-unfolding kept
-stay_few size used marks s e = omega (arith, unmarked_few marks (rows size used s), rows_few size used s)
+pub stay_few : {stay : ℕ} (goes : List ℕ → Bool) (size used : ℕ) (s : List ℕ) → stay ≡ length (left goes size used s) → stay ≤ used
+unfolding left
+stay_few goes size used s e = omega (arith, length-keep (λ r. not (goes r)) (rows size used s), rows_few size used s)
 
--- a table as laid out, at a place of a store
+-- rows that are written so that they can be read back stay as written if and only if they stay
+keep_put : {Row : Type 0} {c : Codec Row} {bad : Row → Bool} → Reads c bad → (test : Row → Bool) (rs : List Row) → some_row bad rs ≡ false
+    → keep (λ b. not (test (c.get b))) (map c.put rs) ≡ map c.put (keep (λ r. not (test r)) rs)
+unfolding keep some_row
+keep_put R test [] good = refl
+keep_put {c = c} {bad = bad} R test (r ∷ rs) good =
+    let g = or_split (bad r) (some_row bad rs) good in
+    rw (R.back r g.0) (at (test r) (keep_put R test rs g.1))
+  where
+    at : (b : Bool) → keep (λ b. not (test (c.get b))) (map c.put rs) ≡ map c.put (keep (λ r. not (test r)) rs)
+        → cond (not b) (c.put r ∷ keep (λ b. not (test (c.get b))) (map c.put rs)) (keep (λ b. not (test (c.get b))) (map c.put rs))
+        ≡ map c.put (cond (not b) (r ∷ keep (λ r. not (test r)) rs) (keep (λ r. not (test r)) rs))
+    at true e = e
+    at false e = ap (λ (l : List (List ℕ)). c.put r ∷ l) e
+
+-- a table as laid out, of which the rows that pass a test go
 module _ {Row : Type 0} {c : Codec Row} {bad : Row → Bool} (R : Reads c bad) (room : ℕ) (rs : List Row)
-    (good : some_row bad rs ≡ false) (fits : length rs ≤ room) where
-  module _ (s : List ℕ) (at : ℕ) (p : take (room * c.size) (drop at s) ≡ area c room rs) where
-    -- what the marks say of it, and what is left of it
-    module _ (test : Row → Bool) (before : List ℕ) {marks : List ℕ} (m : marks ≡ marked test rs before) where
-      marks_say : take (length rs) marks ≡ map (λ r. cond (test r) 1 0) rs
-      unfolding marked
-      marks_say = rw m (take_at (map (λ r. cond (test r) 1 0) rs) (drop (length rs) before) (length rs) (length-map rs (λ r. cond (test r) 1 0)))
+    (good : some_row bad rs ≡ false) (fits : length rs ≤ room) (test : Row → Bool) where
+  left_rows : left (λ b. test (c.get b)) c.size (length rs) (area c room rs) ≡ map c.put (keep (λ r. not (test r)) rs)
+  unfolding left
+  left_rows = rw (area-rows R room rs good) (keep_put R test rs good)
 
-      removed_told : {part : List ℕ} {stay gap : ℕ} → gap ≡ room * c.size
-          → (stay ≡ length (kept c.size (length rs) marks (take gap (drop at s)))) × (part ≡ removed c.size (length rs) marks (take gap (drop at s)))
-          → (stay ≡ length (keep (λ r. not (test r)) rs)) × (part ≡ area c room (keep (λ r. not (test r)) rs))
-      removed_told e r =
-          let t = rw (e, p) at r in
-          (t.0 ∙ remove_count R room rs good test marks marks_say, t.1 ∙ remove_area R room rs good test marks marks_say fits)
+  left_count : length (left (λ b. test (c.get b)) c.size (length rs) (area c room rs)) ≡ length (keep (λ r. not (test r)) rs)
+  left_count = rw left_rows (length-map (keep (λ r. not (test r)) rs) c.put)
+
+  closed_up_area : closed_up (λ b. test (c.get b)) c.size (length rs) (area c room rs) ≡ area c room (keep (λ r. not (test r)) rs)
+  unfolding closed_up put_all area pad
+  closed_up_area =
+      let stay = keep (λ r. not (test r)) rs in
+      let fewer = mul-le-mul_right c.size (length-keep (λ r. not (test r)) rs) in
+      let full = mul-le-mul_right c.size fits in
+      let gone : (length rs - length stay) * c.size ≡ length rs * c.size - length stay * c.size =
+      mul_comm _ c.size ∙ (mul-sub c.size (length rs) (length stay) ∙ simp mul_comm) in
+      let gap : (length rs - length stay) * c.size + (room * c.size - length rs * c.size) ≡ room * c.size - length stay * c.size = omega arith in
+      rw (
+        left_count,
+        left_rows,
+        area-rows R room rs good,
+        length-map rs c.put,
+        area_unused R room rs good,
+        replicate-append-replicate {A = ℕ} ((length rs - length stay) * c.size) (room * c.size - length rs * c.size) 0,
+        gap,
+      )
+      (ap (λ n. join (map c.put stay) ++ replicate (room * c.size - n) 0) (sym (put_all-length R stay (kept_good bad test rs good))))
+
+  -- at a place of a store
+  left_told : {part : List ℕ} {stay gap : ℕ} (s : List ℕ) (at : ℕ) → take (room * c.size) (drop at s) ≡ area c room rs → gap ≡ room * c.size
+      → (stay ≡ length (left (λ b. test (c.get b)) c.size (length rs) (take gap (drop at s)))) × (part ≡ closed_up (λ b. test (c.get b)) c.size (length rs) (take gap (drop at s)))
+      → (stay ≡ length (keep (λ r. not (test r)) rs)) × (part ≡ area c room (keep (λ r. not (test r)) rs))
+  left_told s at p e r =
+      let t = rw (e, p) at r in
+      (t.0 ∙ left_count, t.1 ∙ closed_up_area)
 
 -- ---- what an event answers and does
 
-abbrev pub Answers : EventAnswer → Event → List ℕ → List ℕ → Type 0
+abbrev pub Answers : Result (Unit {0}) Refusal → Event → List ℕ → List ℕ → Type 0
 Answers answer e s store = (says answer ≡ cause e (view s)) × (store ≡ after e s)
 
-pub argument_refused : (reason : Refusal) (e : Event) (s : List ℕ) → first (argument_causes e) ≡ some (refusal reason) → Answers (Refused reason) e s s
+pub argument_refused : (reason : Refusal) (e : Event) (s : List ℕ) → first (argument_causes e) ≡ Some (refusal reason) → Answers (Err reason) e s s
 unfolding says
 argument_refused reason e s h = argument_caused e s h
 
-pub unread_refused : {read : ShapeRead} (e : Event) (s : List ℕ) → first (argument_causes e) ≡ none → read ≡ shape_of (view s) → read ≡ Malformed → Answers (Refused Unread) e s s
+pub unread_refused : {read : Option Shape} (e : Event) (s : List ℕ) → first (argument_causes e) ≡ None → read ≡ shape_of (view s) → read ≡ None → Answers (Err Unread) e s s
 unfolding says refusal
 unread_refused e s h p q = malformed_caused e s h (sym p ∙ q)
 
-pub done_by : {store : List ℕ} (e : Event) (v : View) → well_formed v ≡ true → cause e (some v) ≡ none → store ≡ layout (effect e v) → Answers Done e (layout v) store
+pub done_by : {store : List ℕ} (e : Event) (v : View) → well_formed v ≡ true → cause e (Some v) ≡ None → store ≡ layout (effect e v) → Answers (Ok tt) e (layout v) store
 unfolding says after stored
 done_by e v w q r = let views = view_of_layout v w in (rw views (sym q), r ∙ rw (views, q))
 
 -- ---- session end
 
 module _ (session : ℕ) (s : List ℕ) where
-  pub ended_out : 256 ≤ session → Answers (Refused OutOfRange) (ended session) s s
+  pub ended_out : 256 ≤ session → Answers (Err OutOfRange) (ended session) s s
   unfolding argument_causes first refusal
   ended_out h = argument_refused OutOfRange (ended session) s (rw (lt-ltb 255 session h))
 
-  pub ended_unread : {read : ShapeRead} → session < 256 → read ≡ shape_of (view s) → read ≡ Malformed → Answers (Refused Unread) (ended session) s s
+  pub ended_unread : {read : Option Shape} → session < 256 → read ≡ shape_of (view s) → read ≡ None → Answers (Err Unread) (ended session) s s
   unfolding argument_causes first
   ended_unread h = unread_refused (ended session) s (rw (le-ltb 255 session (omega arith)))
 
-pub ended_done : {s store marks part : List ℕ} {shape : Shape} {from end stay : ℕ} (session : ℕ) (before : List ℕ) → Shaped s shape → session < 256
+pub ended_done : {s store part : List ℕ} {shape : Shape} {from end stay : ℕ} (session : ℕ) → Shaped s shape → session < 256
     → from ≡ notes_at shape.counts → end ≡ store_length shape.counts
-    → marks ≡ marked (of_session session) (note_rows_in (take (from + shape.notes * 260 - from) (drop from s))) before
-    → (stay ≡ length (kept 260 shape.notes marks (take (end - from) (drop from s)))) × (part ≡ removed 260 shape.notes marks (take (end - from) (drop from s)))
+    → (stay ≡ length (left (λ b. of_session session (note_row b)) 260 shape.notes (take (end - from) (drop from s)))) × (part ≡ closed_up (λ b. of_session session (note_row b)) 260 shape.notes (take (end - from) (drop from s)))
     → store ≡ pasted 14 (u16 stay) (take from s ++ (part ++ drop (end - from) (drop from s)))
-    → Answers Done (ended session) s store
-unfolding store_length notes_at eqs_at filters_at cause argument_causes store_causes first effect filter_change new_eqs note_change change add_all numbered_codec note_rows_in
-ended_done {marks = marks} {from = from} {end = end} session before (shaped v e) h p q m r t =
+    → Answers (Ok tt) (ended session) s store
+unfolding store_length notes_at eqs_at filters_at cause argument_causes store_causes first effect filter_change new_eqs note_change change add_all numbered_codec note_row
+ended_done {from = from} {end = end} session (shaped v e) h p q r t =
     let f = well_formed-fits v e in
     let span : end - from ≡ v.counts.notes * 260 = omega arith in
     let cut : take (v.counts.notes * 260) (drop from (layout v)) ≡ note_area v = rw p (note_stretch v f) in
-    let told : marks ≡ marked (of_session session) v.notes before = rw (notes_read v f p) at m in
-    let left = removed_told note_reads _ _ f.note_texts f.notes (layout v) from cut (of_session session) before told span r in
+    let left = left_told note_reads _ _ f.note_texts f.notes (of_session session) (layout v) from cut span r in
     let short : length (drop from (layout v)) ≤ end - from = omega (arith, length-drop from (layout v), layout-length v f) in
     let rest : drop (end - from) (drop from (layout v)) ≡ [] = drop_of_length-le _ short in
     done_by (ended session) v e (rw (le-ltb 255 session (omega arith)))
@@ -219,35 +187,52 @@ ended_done {marks = marks} {from = from} {end = end} session before (shaped v e)
 -- ---- disconnect
 
 module _ (session : ℕ) (id s : List ℕ) where
-  pub disconnected_long : 64 < length id → Answers (Refused TooLong) (disconnected session id) s s
+  pub disconnected_long : 64 < length id → Answers (Err TooLong) (disconnected session id) s s
   unfolding argument_causes first refusal
   disconnected_long h = argument_refused TooLong (disconnected session id) s (rw (lt-ltb 64 (length id) h))
 
   module _ (k : length id ≤ 64) where
-    pub disconnected_out : 256 ≤ session → Answers (Refused OutOfRange) (disconnected session id) s s
+    pub disconnected_out : 256 ≤ session → Answers (Err OutOfRange) (disconnected session id) s s
     unfolding argument_causes first refusal
     disconnected_out h = argument_refused OutOfRange (disconnected session id) s (rw (le-ltb 64 (length id) k, lt-ltb 255 session h))
 
-    pub disconnected_unread : {read : ShapeRead} → session < 256 → read ≡ shape_of (view s) → read ≡ Malformed
-        → Answers (Refused Unread) (disconnected session id) s s
+    pub disconnected_unread : {read : Option Shape} → session < 256 → read ≡ shape_of (view s) → read ≡ None
+        → Answers (Err Unread) (disconnected session id) s s
     unfolding argument_causes first
     disconnected_unread h = unread_refused (disconnected session id) s (rw (le-ltb 64 (length id) k, le-ltb 255 session (omega arith)))
 
-pub disconnected_done : {s store marks part : List ℕ} {shape : Shape} {from to notes stay : ℕ} (session : ℕ) (id before : List ℕ) → Shaped s shape
+-- the parts of a list that was cut at `end`, of whose front a part was written
+part_before : (s : List ℕ) (from gap end : ℕ) → from + gap ≤ end → take gap (drop from (take end s)) ≡ take gap (drop from s)
+part_before s from gap end h =
+    let place : from + (end - from) ≡ end = omega arith in
+    rw place at (ap (take gap) (drop-take from (end - from) s)) ∙ take-take gap (end - from) (drop from s) (omega arith)
+
+part_written : (s part : List ℕ) (from to end : ℕ) → from ≤ to → to ≤ end → end ≤ length s
+    → (take from (take end s) ++ (part ++ drop (to - from) (drop from (take end s)))) ++ drop end s ≡ take from s ++ (part ++ drop to s)
+part_written s part from to end h k l =
+    let place : from + (to - from) ≡ to = omega arith in
+    let cut : length (take end s) ≡ end = length-take-le end s l in
+    let behind : drop to (take end s) ++ drop end s ≡ drop to s =
+    sym (drop-append-le to (take end s) (drop end s) (omega (arith, cut))) ∙ ap (drop to) (take-append-drop end s) in
+    let front : take from (take end s) ≡ take from s = take-take from end s (omega arith) in
+    rw (front, drop-drop (to - from) from (take end s), place, append_assoc, append_assoc, behind) refl
+
+pub disconnected_done : {s store part : List ℕ} {shape : Shape} {from to notes stay : ℕ} (session : ℕ) (id : List ℕ) → Shaped s shape
     → length id ≤ 64 → session < 256 → from ≡ filters_at shape.counts → to ≡ eqs_at shape.counts → notes ≡ notes_at shape.counts
-    → marks ≡ marked (cleared session id (note_rows_in (take (notes + shape.notes * 260 - notes) (drop notes s)))) (filter_rows_in (take (from + shape.filters * 326 - from) (drop from s))) before
-    → (stay ≡ length (kept 326 shape.filters marks (take (to - from) (drop from s)))) × (part ≡ removed 326 shape.filters marks (take (to - from) (drop from s)))
-    → store ≡ pasted 10 (u16 stay) (take from s ++ (part ++ drop (to - from) (drop from s)))
-    → Answers Done (disconnected session id) s store
-unfolding eqs_at cause argument_causes store_causes first effect filter_change new_eqs note_change change add_all filter_codec filter_rows_in note_rows_in
-disconnected_done {marks = marks} {from = from} {to = to} session id before (shaped v e) k h p q n m r t =
+    → (stay ≡ length (left (λ b. cleared session id (note_rows_in (take (shape.notes * 260) (drop notes s))) (filter_row b)) 326 shape.filters (take (to - from) (drop from (take notes s)))))
+    × (part ≡ closed_up (λ b. cleared session id (note_rows_in (take (shape.notes * 260) (drop notes s))) (filter_row b)) 326 shape.filters (take (to - from) (drop from (take notes s))))
+    → store ≡ pasted 10 (u16 stay) ((take from (take notes s) ++ (part ++ drop (to - from) (drop from (take notes s)))) ++ drop notes s)
+    → Answers (Ok tt) (disconnected session id) s store
+unfolding store_length notes_at eqs_at filters_at cause argument_causes store_causes first effect filter_change new_eqs note_change change add_all filter_codec filter_row note_rows_in
+disconnected_done {part = part} {from = from} {to = to} {notes = notes} session id (shaped v e) k h p q n r t =
     let f = well_formed-fits v e in
     let test = cleared session id v.notes in
     let span : to - from ≡ v.counts.filters * 326 = omega arith in
     let cut : take (v.counts.filters * 326) (drop from (layout v)) ≡ filter_area v = rw p (filter_stretch v f) in
-    let told : marks ≡ marked test v.filters before = rw (notes_read v f n, filters_read v f p) at m in
-    let left = removed_told filter_reads _ _ f.filter_texts f.filters (layout v) from cut test before told span r in
-    let place : from + (to - from) ≡ eqs_at v.counts = omega arith in
-    let rest : drop (to - from) (drop from (layout v)) ≡ drop (eqs_at v.counts) (layout v) = drop-drop (to - from) from (layout v) ∙ rw place in
+    let back : notes + length v.notes * 260 - notes ≡ length v.notes * 260 = omega arith in
+    let found = rw back at (notes_read v f n) in
+    let there = part_before (layout v) from (to - from) notes (omega arith) in
+    let left = left_told filter_reads _ _ f.filter_texts f.filters test (layout v) from cut span (rw (there, found) at r) in
+    let whole = part_written (layout v) part from to notes (omega arith) (omega arith) (omega (arith, layout-length v f)) in
     done_by (disconnected session id) v e (rw (le-ltb 64 (length id) k, le-ltb 255 session (omega arith)))
-    (t ∙ rw (rest, left.1, left.0, p) (with_filters v f (keep (λ r. not (test r)) v.filters)))
+    (t ∙ rw (whole, left.1, left.0, p, q) (with_filters v f (keep (λ r. not (test r)) v.filters)))

@@ -3,49 +3,29 @@
 use Prim.Native.Nat.{ℕ, suc, ◌+◌, ◌*◌, ◌-◌, ◌≤◌, ◌<◌}
 use mathlib.Core.Path.{◌≡◌, refl, sym, ap, ◌∙◌}
 use mathlib.Core.Bool.{Bool, true, false, cond}
-use mathlib.Core.List.{List, [], ◌∷◌, ◌++◌}
-use mathlib.Core.Option.{Option, none, some}
-use native.Mathlib.Numerals.{add-one}
+use mathlib.Core.List.{List, ◌∷◌, ◌++◌}
+use Rattle.std.specs.Prelude.{Option, None, Some}
 use native.Mathlib.Nat.{mul-le-mul_left}
 use native.Mathlib.Omega.{arith}
-use borrow.Author.Tests.{eq-eqb, lt-ltb, le-ltb, ltb-true, ltb-false, leb-true}
-use borrow.Rule.Slice.PartMut.{mid_of, put_mid, Post-is, mid_len, put_same, same_len_mid}
-use lib.Dec.{ltb, leb}
-use lib.ListN.{length, take, drop, replicate, length-take, length-drop, length-append, length-replicate}
-use lib.Seq.{length-take-le, take-append-le, take_at, drop_at, take-take}
+use borrow.Author.Tests.{eq-eqb, lt-ltb, le-ltb, leb-true}
+use borrow.Rule.Slice.PartMut.{mid_of, put_mid, Post-is}
+use lib.Dec.{leb}
+use lib.ListN.{length, take, drop, replicate, length-replicate}
 use Rattle.text.specs.Text.{fits_at, pasted}
 use Rattle.topic.specs.Topic.{valid_filter}
 use Rattle.table.specs.Bytes.{u16, present, push_answer, pushed, restored}
 use Rattle.table.specs.declared.Pushed.{Pushed}
 use Rattle.table.specs.declared.Pushed.TheVariants.{Present, Added, Full}
 use Rattle.rule.specs.Limits.{text_limit, id_limit}
-use Rattle.rule.specs.Places.{given}
-use Rattle.rule.specs.declared.Given.TheVariants.{Length}
 use Rattle.store.specs.declared.Counts.{Counts}
 use Rattle.store.specs.declared.Shape.{Shape}
 use Rattle.store.specs.Store.{store_length, filter_size, eq_size, note_size}
 use Rattle.store.specs.Layout.{Codec, filter_codec, numbered_codec, eq_codec, put_row, filters_at, eqs_at, notes_at}
-use Rattle.events.specs.Event.{over_name}
 use Rattle.events.specs.Pushes.{filter_bytes, numbered_bytes, pushes_answer, pushes, filter_in, eq_in, topic_bytes, all_answer, all_pushed, replaced, put_back}
 use Rattle.events.specs.declared.FilledTopic.{FilledTopic}
 use Rattle.events.specs.declared.FilledTopic.TheVariants.{Static, TooLong, Filter, Eq}
 use Rattle.events.specs.declared.Table.{Table}
 use Rattle.events.specs.declared.Table.TheVariants.{Filters, Eqs, Notes}
-use Rattle.events.specs.declared.PushedAll.TheVariants.{Used, Full as AllFull}
-
--- ---- a name that was given, by the length that it is said to have
-
-pub name_over : (n : ℕ) (lent : List ℕ) → id_limit < n → ltb id_limit (length lent) ≡ over_name (given (Length n) lent)
-unfolding over_name given
-name_over n lent h = at (ltb id_limit (length lent)) refl
-  where
-    at : (b : Bool) → ltb id_limit (length lent) ≡ b → b ≡ ltb id_limit (length (take n lent))
-    at true e = sym (lt-ltb id_limit (length (take n lent)) (omega (arith, ltb-true id_limit (length lent) e, length-take n lent)))
-    at false e = sym (le-ltb id_limit (length (take n lent)) (omega (arith, ltb-false id_limit (length lent) e, length-take n lent)))
-
-pub name_within : (n : ℕ) (lent : List ℕ) → n ≤ id_limit → false ≡ over_name (given (Length n) lent)
-unfolding over_name given
-name_within n lent h = sym (le-ltb id_limit (length (take n lent)) (omega (arith, length-take n lent)))
 
 -- ---- one push
 
@@ -57,14 +37,14 @@ pub pushes_as : {row row₁ : Option (List ℕ)} {answer : Pushed} {after : List
     → PushesRow row₁ used part answer after
 pushes_as used part e h = (h.0 ∙ ap (λ r. pushes_answer r used part) (sym e), h.1 ∙ ap (λ r. pushes r used part) (sym e))
 
-pub pushes_none : {row : Option (List ℕ)} (used : ℕ) (part : List ℕ) → row ≡ none → PushesRow row used part Present part
+pub pushes_none : {row : Option (List ℕ)} (used : ℕ) (part : List ℕ) → row ≡ None → PushesRow row used part Present part
 unfolding pushes_answer pushes
 pushes_none used part e = pushes_as used part e (refl, refl)
 
 -- a row that was written to a buffer of its size
 pub pushes_put : {Row : Type 0} {answer : Pushed} {after bytes : List ℕ} (c : Codec Row) (r : Row) (size used : ℕ) (part : List ℕ) → size ≡ c.size
     → bytes ≡ put_row c r (replicate size 0) → (answer ≡ push_answer bytes used part) × (after ≡ pushed bytes used part)
-    → PushesRow (some (c.put r)) used part answer after
+    → PushesRow (Some (c.put r)) used part answer after
 unfolding pushes_answer pushes put_row
 pushes_put c r size used part s e h =
     let fits = eq-eqb (length (replicate {A = ℕ} size 0)) c.size (length-replicate size 0 ∙ s) in
@@ -78,11 +58,11 @@ unfolding numbered_bytes
 pushes_numbered n text used part = pushes_put eq_codec (record { rule = n; text = take text_limit text }) eq_size used part (unfold numbered_codec in refl)
 
 pub filter_bytes_lem : (rule : ℕ) (text id : List ℕ) → valid_filter text ≡ true
-    → filter_bytes rule text id ≡ some (filter_codec.put (record { rule = rule; text = take text_limit text; owner = take id_limit id }))
+    → filter_bytes rule text id ≡ Some (filter_codec.put (record { rule = rule; text = take text_limit text; owner = take id_limit id }))
 unfolding filter_bytes
 filter_bytes_lem rule text id v = rw v
 
-pub no_filter_bytes : (rule : ℕ) (text id : List ℕ) → valid_filter text ≡ false → filter_bytes rule text id ≡ none
+pub no_filter_bytes : (rule : ℕ) (text id : List ℕ) → valid_filter text ≡ false → filter_bytes rule text id ≡ None
 unfolding filter_bytes
 no_filter_bytes rule text id v = rw v
 
@@ -95,16 +75,6 @@ pushes_filter rule text id used part v e h =
 
 -- ---- the row that a filled topic is
 
--- neither a static topic nor one over the limit is a row
-pub no_topic : (table : Table) (rule session : ℕ) (id text : List ℕ) (t : FilledTopic) → ((n : ℕ) → t ≡ Filter n → ⊥)
-    → ((n : ℕ) → t ≡ Eq n → ⊥)
-    → topic_bytes table rule session id t text ≡ none
-unfolding topic_bytes
-no_topic table rule session id text Static f e = refl
-no_topic table rule session id text TooLong f e = refl
-no_topic table rule session id text (Filter n) f e = absurd (f n refl)
-no_topic table rule session id text (Eq n) f e = absurd (e n refl)
-
 module _ (table : Table) (rule session : ℕ) (id text : List ℕ) {topic : FilledTopic} {n : ℕ} where
   pub filter_topic : topic ≡ Filter n → topic_bytes table rule session id topic text ≡ filter_in table rule session id (take n text)
   unfolding topic_bytes
@@ -113,31 +83,6 @@ module _ (table : Table) (rule session : ℕ) (id text : List ℕ) {topic : Fill
   pub eq_topic : topic ≡ Eq n → topic_bytes table rule session id topic text ≡ eq_in table rule session id (take n text)
   unfolding topic_bytes
   eq_topic e = rw e
-
-module _ {table : Table} (rule session : ℕ) (id text : List ℕ) where
-  pub filters_filter : {front : List ℕ} → table ≡ Filters → front ≡ text → filter_in table rule session id text ≡ filter_bytes rule front id
-  unfolding filter_in
-  filters_filter t e = rw (t, e)
-
-  pub eqs_filter : table ≡ Eqs → filter_in table rule session id text ≡ none
-  unfolding filter_in
-  eqs_filter t = rw t
-
-  pub notes_filter : {front : List ℕ} → table ≡ Notes → front ≡ text → filter_in table rule session id text ≡ numbered_bytes session front
-  unfolding filter_in
-  notes_filter t e = rw (t, e)
-
-  pub filters_eq : table ≡ Filters → eq_in table rule session id text ≡ none
-  unfolding eq_in
-  filters_eq t = rw t
-
-  pub eqs_eq : {front : List ℕ} → table ≡ Eqs → front ≡ text → eq_in table rule session id text ≡ numbered_bytes rule front
-  unfolding eq_in
-  eqs_eq t e = rw (t, e)
-
-  pub notes_eq : table ≡ Notes → eq_in table rule session id text ≡ none
-  unfolding eq_in
-  notes_eq t = rw t
 
 -- ---- the tables put back
 
@@ -192,15 +137,15 @@ module _ (row : Option (List ℕ)) (rows : List (Option (List ℕ))) (used : ℕ
   unfolding all_answer all_pushed
   all_added e = (rw (e, all_answer), rw (e, all_pushed))
 
-  pub all_full : pushes_answer row used part ≡ Full → (all_answer (row ∷ rows) used part ≡ AllFull) × (all_pushed (row ∷ rows) used part ≡ part)
+  pub all_full : pushes_answer row used part ≡ Full → (all_answer (row ∷ rows) used part ≡ None) × (all_pushed (row ∷ rows) used part ≡ part)
   unfolding all_answer all_pushed
   all_full e = (rw (e, all_answer), rw (e, all_pushed))
 
 -- where there is no room, nothing is written
-full_leaves : (row : Option (List ℕ)) (used : ℕ) (part : List ℕ) → pushes_answer row used part ≡ Full → pushes row used part ≡ part
+pub full_leaves : (row : Option (List ℕ)) (used : ℕ) (part : List ℕ) → pushes_answer row used part ≡ Full → pushes row used part ≡ part
 unfolding pushes_answer pushes push_answer pushed pasted
-full_leaves none used part e = refl
-full_leaves (some row) used part e = at (present row used part) (fits_at (used * length row) row part) e
+full_leaves None used part e = refl
+full_leaves (Some row) used part e = at (present row used part) (fits_at (used * length row) row part) e
   where
     at : (b d : Bool) → cond b Present (cond d Added Full) ≡ Full
         → cond b part (cond d (take (used * length row) part ++ (row ++ drop (used * length row + length row) part)) part) ≡ part
@@ -209,10 +154,10 @@ full_leaves (some row) used part e = at (present row used part) (fits_at (used *
     at false false e = refl
 
 -- where a row was added, there was room for more rows than were used
-added_fits : (row : Option (List ℕ)) (used : ℕ) (part : List ℕ) → ((r : List ℕ) → row ≡ some r → 0 < length r) → pushes_answer row used part ≡ Added → used < length part
+pub added_fits : (row : Option (List ℕ)) (used : ℕ) (part : List ℕ) → ((r : List ℕ) → row ≡ Some r → 0 < length r) → pushes_answer row used part ≡ Added → used < length part
 unfolding pushes_answer push_answer fits_at
-added_fits none used part h e = let z : ◌≡◌ {A = ℕ} 0 1 = cc in absurd (omega arith)
-added_fits (some row) used part h e = at (present row used part) (leb (used * length row + length row) (length part)) refl e
+added_fits None used part h e = let z : ◌≡◌ {A = ℕ} 0 1 = cc in absurd (omega arith)
+added_fits (Some row) used part h e = at (present row used part) (leb (used * length row + length row) (length part)) refl e
   where
     at : (b d : Bool) → leb (used * length row + length row) (length part) ≡ d → cond b Present (cond d Added Full) ≡ Added → used < length part
     at true d q e = let z : ◌≡◌ {A = ℕ} 0 1 = cc in absurd (omega arith)
@@ -223,26 +168,26 @@ added_fits (some row) used part h e = at (present row used part) (leb (used * le
     at false false q e = let z : ◌≡◌ {A = ℕ} 0 1 = cc in absurd (omega arith)
 
 -- a row has bytes
-cons_long : (x : ℕ) (s row : List ℕ) → some (x ∷ s) ≡ some row → 0 < length row
+cons_long : (x : ℕ) (s row : List ℕ) → Some (x ∷ s) ≡ Some row → 0 < length row
 cons_long x s row e = let q : x ∷ s ≡ row = cc in omega (arith, ap length q)
 
-numbered_long : (n : ℕ) (text row : List ℕ) → numbered_bytes n text ≡ some row → 0 < length row
+numbered_long : (n : ℕ) (text row : List ℕ) → numbered_bytes n text ≡ Some row → 0 < length row
 unfolding numbered_bytes numbered_codec u16
 numbered_long n text row e = cons_long _ _ row e
 
-filter_long : (rule : ℕ) (text id row : List ℕ) → filter_bytes rule text id ≡ some row → 0 < length row
+filter_long : (rule : ℕ) (text id row : List ℕ) → filter_bytes rule text id ≡ Some row → 0 < length row
 unfolding filter_bytes filter_codec u16
 filter_long rule text id row e = at (valid_filter text) _ _ e
   where
-    at : (b : Bool) (x : ℕ) (s : List ℕ) → cond b (some (x ∷ s)) none ≡ some row → 0 < length row
+    at : (b : Bool) (x : ℕ) (s : List ℕ) → cond b (Some (x ∷ s)) None ≡ Some row → 0 < length row
     at true x s e = cons_long x s row e
     at false x s e = let z : ◌≡◌ {A = ℕ} 0 1 = cc in absurd (omega arith)
 
-none_long : (row : List ℕ) → none ≡ some row → 0 < length row
+none_long : (row : List ℕ) → None ≡ Some row → 0 < length row
 none_long row e = let z : ◌≡◌ {A = ℕ} 0 1 = cc in absurd (omega arith)
 
 pub topic_long : (table : Table) (rule session : ℕ) (id : List ℕ) (t : FilledTopic) (text row : List ℕ)
-    → topic_bytes table rule session id t text ≡ some row → 0 < length row
+    → topic_bytes table rule session id t text ≡ Some row → 0 < length row
 unfolding topic_bytes filter_in eq_in
 topic_long table rule session id Static text row = none_long row
 topic_long table rule session id TooLong text row = none_long row
@@ -253,148 +198,9 @@ topic_long Filters rule session id (Eq n) text row = none_long row
 topic_long Eqs rule session id (Eq n) text row = numbered_long rule (take n text) row
 topic_long Notes rule session id (Eq n) text row = none_long row
 
--- rows are being pushed to the stretch of the store from `from` to `to`: those that are left come to what all come to
-pub record Pushing (from to : ℕ) (before : List ℕ) (all : List (Option (List ℕ))) (earlier : ℕ) (rows : List (Option (List ℕ))) (store : List ℕ) (used : ℕ) : Type 0 where
-  pub part : List ℕ
-  pub size : length part ≡ to - from
-  pub whole : store ≡ take from before ++ (part ++ drop to before)
-  pub answers : all_answer rows used part ≡ all_answer all earlier (mid_of from (to - from) before)
-  pub leaves : all_pushed rows used part ≡ all_pushed all earlier (mid_of from (to - from) before)
-
 -- lists of rows that come to the same
 pub record Alike (rows rows₁ : List (Option (List ℕ))) : Type 0 where
   pub come : (used : ℕ) (part : List ℕ) → (all_answer rows used part ≡ all_answer rows₁ used part) × (all_pushed rows used part ≡ all_pushed rows₁ used part)
 
 pub same_alike : {rows rows₁ : List (Option (List ℕ))} → rows ≡ rows₁ → Alike rows rows₁
 same_alike e = record { come = λ used part. (ap (λ rs. all_answer rs used part) e, ap (λ rs. all_pushed rs used part) e) }
-
-pub pushing_alike : {from to earlier used : ℕ} {before store : List ℕ} {all rows rows₁ : List (Option (List ℕ))} → Alike rows rows₁
-    → Pushing from to before all earlier rows store used → Pushing from to before all earlier rows₁ store used
-pushing_alike {used = used} e p =
-    record {
-      part = p.part;
-      size = p.size;
-      whole = p.whole;
-      answers = sym (e.come used p.part).0 ∙ p.answers;
-      leaves = sym (e.come used p.part).1 ∙ p.leaves;
-    }
-
-module _ (from to : ℕ) (before : List ℕ) (h : from ≤ to) (k : to ≤ length before) where
-  -- the store with another part there
-  abbrev with_part : List ℕ → List ℕ
-  with_part part = take from before ++ (part ++ drop to before)
-
-  front_length : length (take from before) ≡ from
-  front_length = length-take-le from before (omega arith)
-
-  with_length : (part : List ℕ) → length part ≡ to - from → length (with_part part) ≡ length before
-  with_length part e =
-      omega (arith, length-append (take from before) (part ++ drop to before), length-append part (drop to before), front_length, length-drop to before)
-
-  with_mid : (part : List ℕ) → length part ≡ to - from → mid_of from (to - from) (with_part part) ≡ part
-  with_mid part e = rw (drop_at (take from before) (part ++ drop to before) from front_length) (take_at part (drop to before) (to - from) e)
-
-  with_put : (part new : List ℕ) → length part ≡ to - from → put_mid from (to - from) (with_part part) new ≡ with_part new
-  with_put part new e =
-      rw (
-        take_at (take from before) (part ++ drop to before) from front_length,
-        drop_at (take from before) (part ++ drop to before) from front_length,
-        drop_at part (drop to before) (to - from) e,
-      )
-
-  with_front : (n : ℕ) (part : List ℕ) → n ≤ from → take n (with_part part) ≡ take n before
-  with_front n part l = take-append-le n (take from before) (part ++ drop to before) (omega (arith, front_length)) ∙ take-take n from before l
-
-  pub pushing_none : (all : List (Option (List ℕ))) (earlier : ℕ) → Pushing from to before all earlier all before earlier
-  pushing_none all earlier =
-      record {
-        part = mid_of from (to - from) before;
-        size = mid_len from to before k;
-        whole = sym (rw (Post-is from to before h) at (put_same from (to - from) before));
-        answers = refl;
-        leaves = refl;
-      }
-
-  module _ {all rows : List (Option (List ℕ))} {earlier used : ℕ} {store : List ℕ} (p : Pushing from to before all earlier rows store used) where
-    pub pushing_length : length store ≡ length before
-    pushing_length = ap length p.whole ∙ with_length p.part p.size
-
-    pub pushing_front : (n : ℕ) → n ≤ from → take n store ≡ take n before
-    pushing_front n l = ap (take n) p.whole ∙ with_front n p.part l
-
-    pushing_mid : mid_of from (to - from) store ≡ p.part
-    pushing_mid = ap (mid_of from (to - from)) p.whole ∙ with_mid p.part p.size
-
-    pushing_put : (new : List ℕ) → put_mid from (to - from) store new ≡ with_part new
-    pushing_put new = ap (λ s. put_mid from (to - from) s new) p.whole ∙ with_put p.part new p.size
-
-    -- pushing goes on
-    pub pushing_on : {rows₁ : List (Option (List ℕ))} {used₁ : ℕ} {store₁ : List ℕ} → Pushing from to store rows used rows₁ store₁ used₁
-        → Pushing from to before all earlier rows₁ store₁ used₁
-    pushing_on q =
-        let placed = q.whole ∙ ap (λ s. take from store ++ (q.part ++ s)) (sym (Post-is from to store h)) in
-        record {
-          part = q.part;
-          size = q.size;
-          whole = placed ∙ pushing_put q.part;
-          answers = q.answers ∙ (ap (all_answer rows used) pushing_mid ∙ p.answers);
-          leaves = q.leaves ∙ (ap (all_pushed rows used) pushing_mid ∙ p.leaves);
-        }
-
-  -- all rows are pushed
-  pub pushing_done : {all rows : List (Option (List ℕ))} {earlier used : ℕ} {store : List ℕ} → rows ≡ [] → Pushing from to before all earlier rows store used
-      → (Used used ≡ all_answer all earlier (mid_of from (to - from) before)) × (store ≡ with_part (all_pushed all earlier (mid_of from (to - from) before)))
-  unfolding all_answer all_pushed
-  pushing_done {used = used} e p = (
-    sym (ap (λ rs. all_answer rs used p.part) e) ∙ p.answers,
-    p.whole ∙ ap with_part (sym (ap (λ rs. all_pushed rs used p.part) e) ∙ p.leaves),
-  )
-
-  -- one row is pushed
-  module _ {all rows : List (Option (List ℕ))} {earlier used : ℕ} {row : Option (List ℕ)} {answer : Pushed} {store new : List ℕ}
-      (p : Pushing from to before all earlier (row ∷ rows) store used) (pushes-it : PushesRow row used (mid_of from (to - from) store) answer new)
-      (l : length new ≡ length (mid_of from (to - from) store)) where
-    row_told : pushes_answer row used p.part ≡ answer
-    row_told = sym (pushes-it.0 ∙ ap (pushes_answer row used) (pushing_mid p))
-
-    row_leaves : new ≡ pushes row used p.part
-    row_leaves = pushes-it.1 ∙ ap (pushes row used) (pushing_mid p)
-
-    row_size : length new ≡ to - from
-    row_size = l ∙ (ap length (pushing_mid p) ∙ p.size)
-
-    pub pushing-present : answer ≡ Present → Pushing from to before all earlier rows (put_mid from (to - from) store new) used
-    pushing-present e =
-        let step = all_present row rows used p.part (row_told ∙ e) in
-        record {
-          part = new;
-          size = row_size;
-          whole = pushing_put p new;
-          answers = ap (all_answer rows used) row_leaves ∙ (sym step.0 ∙ p.answers);
-          leaves = ap (all_pushed rows used) row_leaves ∙ (sym step.1 ∙ p.leaves);
-        }
-
-    pub pushing-added : answer ≡ Added → Pushing from to before all earlier rows (put_mid from (to - from) store new) (used + 1)
-    pushing-added e =
-        let step = all_added row rows used p.part (row_told ∙ e) in
-        record {
-          part = new;
-          size = row_size;
-          whole = pushing_put p new;
-          answers = (λ i. all_answer rows (add-one used i) (row_leaves i)) ∙ (sym step.0 ∙ p.answers);
-          leaves = (λ i. all_pushed rows (add-one used i) (row_leaves i)) ∙ (sym step.1 ∙ p.leaves);
-        }
-
-    pub pushing_room : ((r : List ℕ) → row ≡ some r → 0 < length r) → answer ≡ Added → used < length before
-    pushing_room long e = omega (arith, added_fits row used p.part long (row_told ∙ e), p.size)
-
-    pub pushing_full : answer ≡ Full
-        → (AllFull ≡ all_answer all earlier (mid_of from (to - from) before))
-        × (put_mid from (to - from) store new ≡ with_part (all_pushed all earlier (mid_of from (to - from) before)))
-    pushing_full e =
-        let step = all_full row rows used p.part (row_told ∙ e) in
-        let same = row_leaves ∙ full_leaves row used p.part (row_told ∙ e) in
-        (sym step.0 ∙ p.answers, pushing_put p new ∙ ap with_part (same ∙ (sym step.1 ∙ p.leaves)))
-
-    pub pushing_same : length (put_mid from (to - from) store new) ≡ length before
-    pushing_same = same_len_mid from (to - from) store new l ∙ pushing_length p

@@ -3,7 +3,7 @@ use Prim.Native.Nat.{ℕ, ◌+◌, ◌*◌, ◌-◌, ◌≤◌, ◌<◌}
 use mathlib.Core.Path.{◌≡◌, refl, sym, ap, ◌∙◌}
 use mathlib.Core.Bool.{Bool, true, false, cond}
 use mathlib.Core.List.{List, [], ◌∷◌, ◌++◌, append_assoc, append-nil}
-use mathlib.Core.Option.{Option, none, some}
+use Rattle.std.specs.Prelude.{Option, None, Some}
 use native.Mathlib.Omega.{arith}
 use borrow.Author.Tests.{le-ltb, lt-ltb, ltb-false}
 use borrow.Rule.Slice.PartMut.{mid_of}
@@ -17,10 +17,10 @@ use Rattle.table.specs.Table.{change}
 use Rattle.table.specs.Bytes.{u16, restored}
 use Rattle.rule.specs.Limits.{id_limit, lines_limit}
 use Rattle.rule.specs.Refusals.{first}
-use Rattle.rule.specs.RuleText.{Fault, filled, fault_in, text_fault}
+use Rattle.rule.specs.RuleText.{filled, fault_in, text_fault}
+use Rattle.rule.specs.declared.Fault.{Fault}
 use Rattle.store.specs.declared.Counts.{Counts}
 use Rattle.store.specs.declared.Shape.{Shape}
-use Rattle.store.specs.declared.ShapeRead.TheVariants.{Malformed}
 use Rattle.store.specs.Store.{bytes_limit, session_limit, store_length, filter_size, eq_size, note_size, over, View, same_filter, same_eq}
 use Rattle.store.specs.Layout.{pad, filter_codec, numbered_codec, eq_codec, note_codec, area, header, layout, filters_at, eqs_at, notes_at}
 use Rattle.store.specs.View.{faultless, view}
@@ -34,8 +34,6 @@ use Rattle.events.specs.Templates.{over_filled}
 use Rattle.events.specs.Pushes.{new_bytes, all_answer, all_pushed, replaced, put_back}
 use Rattle.events.specs.declared.Table.{Table}
 use Rattle.events.specs.declared.Table.TheVariants.{Filters, Eqs, Notes}
-use Rattle.events.specs.declared.PushedAll.{PushedAll}
-use Rattle.events.specs.declared.PushedAll.TheVariants.{Used, Full as AllFull}
 use Rattle.events.proofs.PushLaws.{places}
 use Rattle.events.proofs.ConnectLaws.{rules, drop_cut}
 use Rattle.events.proofs.FillLaws.{new_filters, new_eqs_lem, new_notes, filters_short, eqs_short, notes_short, Stopped, used_told, stopped_told, stopped_back, stopped-length, added_good, added_back, none_back}
@@ -174,79 +172,79 @@ module _ (c : Counts) (text f e n : ℕ) (rest : List ℕ) where
 
 -- ---- what the event says
 
-first-none : (xs ys : List (Bool × ℕ)) → first xs ≡ none → first (xs ++ ys) ≡ first ys
+first-none : (xs ys : List (Bool × ℕ)) → first xs ≡ None → first (xs ++ ys) ≡ first ys
 unfolding first
 first-none [] ys e = refl
 first-none (x ∷ xs) ys e = at x.0 e (first-none xs ys)
   where
-    at : (b : Bool) → cond b (some x.1) (first xs) ≡ none → (first xs ≡ none → first (xs ++ ys) ≡ first ys) → cond b (some x.1) (first (xs ++ ys)) ≡ first ys
+    at : (b : Bool) → cond b (Some x.1) (first xs) ≡ None → (first xs ≡ None → first (xs ++ ys) ≡ first ys) → cond b (Some x.1) (first (xs ++ ys)) ≡ first ys
     at true e onward = let z : ◌≡◌ {A = ℕ} 0 1 = cc in absurd (omega arith)
     at false e onward = onward e
 
-first-false : (b : Bool) (n : ℕ) (rest : List (Bool × ℕ)) → first ((b, n) ∷ rest) ≡ none → b ≡ false
+first-false : (b : Bool) (n : ℕ) (rest : List (Bool × ℕ)) → first ((b, n) ∷ rest) ≡ None → b ≡ false
 unfolding first
 first-false true n rest e = let z : ◌≡◌ {A = ℕ} 0 1 = cc in absurd (omega arith)
 first-false false n rest e = refl
 
-first_some : {n : ℕ} (xs ys : List (Bool × ℕ)) → first xs ≡ some n → first (xs ++ ys) ≡ some n
+first_some : {n : ℕ} (xs ys : List (Bool × ℕ)) → first xs ≡ Some n → first (xs ++ ys) ≡ Some n
 unfolding first
 first_some [] ys e = let z : ◌≡◌ {A = ℕ} 0 1 = cc in absurd (omega arith)
 first_some {n} (x ∷ xs) ys e = at x.0 e (first_some xs ys)
   where
-    at : (b : Bool) → cond b (some x.1) (first xs) ≡ some n → (first xs ≡ some n → first (xs ++ ys) ≡ some n) → cond b (some x.1) (first (xs ++ ys)) ≡ some n
+    at : (b : Bool) → cond b (Some x.1) (first xs) ≡ Some n → (first xs ≡ Some n → first (xs ++ ys) ≡ Some n) → cond b (Some x.1) (first (xs ++ ys)) ≡ Some n
     at true e onward = e
     at false e onward = onward e
 
 -- an event with a cause is refused, and the store is as it was
-pub caused : {n : ℕ} (e : Event) (s : List ℕ) → cause e (view s) ≡ some n → (some n ≡ cause e (view s)) × (s ≡ after e s)
+pub caused : {n : ℕ} (e : Event) (s : List ℕ) → cause e (view s) ≡ Some n → (Some n ≡ cause e (view s)) × (s ≡ after e s)
 unfolding after stored
 caused {n} e s q = (sym q, at (view s) q)
   where
-    at : (o : Option View) → cause e o ≡ some n → s ≡ stored e s o
-    at none q = refl
-    at (some v) q = rw q
+    at : (o : Option View) → cause e o ≡ Some n → s ≡ stored e s o
+    at None q = refl
+    at (Some v) q = rw q
 
-pub argument_caused : {n : ℕ} (e : Event) (s : List ℕ) → first (argument_causes e) ≡ some n → (some n ≡ cause e (view s)) × (s ≡ after e s)
+pub argument_caused : {n : ℕ} (e : Event) (s : List ℕ) → first (argument_causes e) ≡ Some n → (Some n ≡ cause e (view s)) × (s ≡ after e s)
 unfolding cause
 argument_caused {n} e s q = caused e s (at (view s))
   where
-    at : (o : Option View) → cause e o ≡ some n
-    at none = first_some (argument_causes e) ((true, 3) ∷ []) q
-    at (some v) = first_some (argument_causes e) (store_causes e v) q
+    at : (o : Option View) → cause e o ≡ Some n
+    at None = first_some (argument_causes e) ((true, 3) ∷ []) q
+    at (Some v) = first_some (argument_causes e) (store_causes e v) q
 
-pub malformed_caused : (e : Event) (s : List ℕ) → first (argument_causes e) ≡ none → shape_of (view s) ≡ Malformed → (some 3 ≡ cause e (view s)) × (s ≡ after e s)
+pub malformed_caused : (e : Event) (s : List ℕ) → first (argument_causes e) ≡ None → shape_of (view s) ≡ None → (Some 3 ≡ cause e (view s)) × (s ≡ after e s)
 unfolding cause first
 malformed_caused e s q m = caused e s (ap (cause e) (malformed_told s refl m) ∙ first-none (argument_causes e) ((true, 3) ∷ []) q)
 
 -- the causes that are seen of the arguments
 module _ (session : ℕ) (id : List ℕ) (name : Option (List ℕ)) where
-  pub id_over : id_limit < length id → first (argument_causes (connected session id name)) ≡ some 1
+  pub id_over : id_limit < length id → first (argument_causes (connected session id name)) ≡ Some 1
   unfolding argument_causes first
   id_over h = rw (lt-ltb id_limit (length id) h)
 
   module _ (h : length id ≤ id_limit) where
-    pub name_too_long : over_name name ≡ true → first (argument_causes (connected session id name)) ≡ some 1
+    pub name_too_long : over_name name ≡ true → first (argument_causes (connected session id name)) ≡ Some 1
     unfolding argument_causes first
     name_too_long q = rw (le-ltb id_limit (length id) h, q)
 
-    pub session_over : over_name name ≡ false → session_limit < session → first (argument_causes (connected session id name)) ≡ some 2
+    pub session_over : over_name name ≡ false → session_limit < session → first (argument_causes (connected session id name)) ≡ Some 2
     unfolding argument_causes first
     session_over q k = rw (le-ltb id_limit (length id) h, q, lt-ltb session_limit session k)
 
-    pub arguments_fine : over_name name ≡ false → session ≤ session_limit → first (argument_causes (connected session id name)) ≡ none
+    pub arguments_fine : over_name name ≡ false → session ≤ session_limit → first (argument_causes (connected session id name)) ≡ None
     unfolding argument_causes first
     arguments_fine q k = rw (le-ltb id_limit (length id) h, q, le-ltb session_limit session k)
 
-faultless_none : (o : Option Fault) → faultless o ≡ true → o ≡ none
+faultless_none : (o : Option Fault) → faultless o ≡ true → o ≡ None
 unfolding faultless
-faultless_none none e = refl
-faultless_none (some f) e = let z : ◌≡◌ {A = ℕ} 0 1 = cc in absurd (omega arith)
+faultless_none None e = refl
+faultless_none (Some f) e = let z : ◌≡◌ {A = ℕ} 0 1 = cc in absurd (omega arith)
 
-few_lines : (text : List ℕ) → text_fault text ≡ none → length (lines text) ≤ lines_limit
+few_lines : (text : List ℕ) → text_fault text ≡ None → length (lines text) ≤ lines_limit
 unfolding text_fault
 few_lines text e = at (ltb lines_limit (length (lines text))) _ refl e
   where
-    at : (b : Bool) (f : Fault) → ltb lines_limit (length (lines text)) ≡ b → cond b (some f) (fault_in 1 (lines text)) ≡ none → length (lines text) ≤ lines_limit
+    at : (b : Bool) (f : Fault) → ltb lines_limit (length (lines text)) ≡ b → cond b (Some f) (fault_in 1 (lines text)) ≡ None → length (lines text) ≤ lines_limit
     at true f q e = let z : ◌≡◌ {A = ℕ} 0 1 = cc in absurd (omega arith)
     at false f q e = ltb-false lines_limit (length (lines text)) q
 
@@ -278,14 +276,14 @@ module _ (s : List ℕ) (shape : Shape) (g : Seen (view s) shape) where
       ∙ ((λ i. rules (16 + (g.shaped i).text) (sym (view-layout s v g.is) i)) ∙ state-text v G_fits (filter_area v) (eq_area v) (note_area v))
 
   pub not_over : (id : List ℕ) (name : Option (List ℕ)) → over_filled (mid_of 16 (16 + shape.text - 16) s) id name ≡ false
-      → (v : View) → view s ≡ some v → over_filled v.text id name ≡ false
+      → (v : View) → view s ≡ Some v → over_filled v.text id name ≡ false
   not_over id name h v is =
-      let same : some v ≡ some g.seen = sym is ∙ g.is in
+      let same : Some v ≡ Some g.seen = sym is ∙ g.is in
       let equal : v ≡ g.seen = cc in
       ap (λ (u : View). over_filled u.text id name) equal ∙ (sym (ap (λ t. over_filled t id name) text_lent) ∙ h)
 
-  pub over_caused : (session : ℕ) (id : List ℕ) (name : Option (List ℕ)) → first (argument_causes (connected session id name)) ≡ none
-      → over_filled (mid_of 16 (16 + shape.text - 16) s) id name ≡ true → (some 7 ≡ cause (connected session id name) (view s)) × (s ≡ after (connected session id name) s)
+  pub over_caused : (session : ℕ) (id : List ℕ) (name : Option (List ℕ)) → first (argument_causes (connected session id name)) ≡ None
+      → over_filled (mid_of 16 (16 + shape.text - 16) s) id name ≡ true → (Some 7 ≡ cause (connected session id name) (view s)) × (s ≡ after (connected session id name) s)
   unfolding cause store_causes first over_filled
   over_caused session id name fine h =
       let e = connected session id name in
@@ -298,8 +296,8 @@ module _ (s : List ℕ) (shape : Shape) (g : Seen (view s) shape) where
 -- arguments nor a filled text are too long
 pub record Ready (session : ℕ) (id : List ℕ) (name : Option (List ℕ)) (s : List ℕ) (shape : Shape) (at₁ at₂ at₃ end : ℕ) : Type 0 where
   pub v : View
-  pub is : view s ≡ some v
-  pub fine : first (argument_causes (connected session id name)) ≡ none
+  pub is : view s ≡ Some v
+  pub fine : first (argument_causes (connected session id name)) ≡ None
   pub under : over_filled v.text id name ≡ false
   pub shaped : shape ≡ shape_of_lem v
   pub filters_place : at₁ ≡ filters_at shape.counts
@@ -311,10 +309,10 @@ module _ {session at₁ at₂ at₃ end : ℕ} {id s : List ℕ} {name : Option 
   abbrev v : View
   v = G.v
 
-  is : view s ≡ some v
+  is : view s ≡ Some v
   is = G.is
 
-  fine : first (argument_causes (connected session id name)) ≡ none
+  fine : first (argument_causes (connected session id name)) ≡ None
   fine = G.fine
 
   under : over_filled v.text id name ≡ false
@@ -339,20 +337,20 @@ module _ {session at₁ at₂ at₃ end : ℕ} {id s : List ℕ} {name : Option 
   pub rows_fit : InRange v.counts
   rows_fit = fit_range v.counts (openable_parts _ _ (well_formed_parts v (view-well_formed s v is)).head).counts
 
-  store_cause : cause event (some v)
-      ≡ cond (ltb v.counts.filters (length w.filters)) (some 8)
-      (cond (ltb v.counts.eqs (length w.eqs)) (some 9) (cond (ltb v.counts.notes (length w.notes)) (some 10) none))
+  store_cause : cause event (Some v)
+      ≡ cond (ltb v.counts.filters (length w.filters)) (Some 8)
+      (cond (ltb v.counts.eqs (length w.eqs)) (Some 9) (cond (ltb v.counts.notes (length w.notes)) (Some 10) None))
   unfolding cause store_causes first over_filled
   store_cause =
       first-none (argument_causes event) (store_causes event v) fine
       ∙ ap
       (λ b.
-      cond b (some 7)
-      (cond (ltb v.counts.filters (length w.filters)) (some 8)
-      (cond (ltb v.counts.eqs (length w.eqs)) (some 9) (cond (ltb v.counts.notes (length w.notes)) (some 10) none))))
+      cond b (Some 7)
+      (cond (ltb v.counts.filters (length w.filters)) (Some 8)
+      (cond (ltb v.counts.eqs (length w.eqs)) (Some 9) (cond (ltb v.counts.notes (length w.notes)) (Some 10) None))))
       under
 
-  refused_as : {t : List ℕ} (n : ℕ) → cause event (some v) ≡ some n → t ≡ s → (some n ≡ cause event (view s)) × (t ≡ after event s)
+  refused_as : {t : List ℕ} (n : ℕ) → cause event (Some v) ≡ Some n → t ≡ s → (Some n ≡ cause event (view s)) × (t ≡ after event s)
   unfolding after stored
   refused_as n q e = (sym (ap (cause event) is ∙ q), e ∙ rw (is, q))
 
@@ -370,7 +368,7 @@ module _ {session at₁ at₂ at₃ end : ℕ} {id s : List ℕ} {name : Option 
   unfolding numbered_codec
   notes_size = omega arith
 
-  filters_used_lem : {r : PushedAll} {n : ℕ} → r ≡ all_answer (new_bytes Filters session v.text id name) (length v.filters) (filter_area v) → r ≡ Used n
+  filters_used_lem : {r : Option ℕ} {n : ℕ} → r ≡ all_answer (new_bytes Filters session v.text id name) (length v.filters) (filter_area v) → r ≡ Some n
       → (length w.filters ≤ v.counts.filters) × (n ≡ length w.filters)
       × (all_pushed (new_bytes Filters session v.text id name) (length v.filters) (filter_area v) ≡ area filter_codec v.counts.filters w.filters)
   unfolding new_bytes over_filled effect change filter_change filter_rows filled_filters
@@ -378,7 +376,7 @@ module _ {session at₁ at₂ at₃ end : ℕ} {id s : List ℕ} {name : Option 
       used_told filter_reads filter_rows_lem v.counts.filters filters_size (filter_rows v.text id name) v.filters (filters_short session id id_fits (filled v.text id name) under)
       F.filter_texts F.filters (new_filters session id id_fits (filled v.text id name) under) told e
 
-  filters-stopped : {r : PushedAll} → r ≡ all_answer (new_bytes Filters session v.text id name) (length v.filters) (filter_area v) → r ≡ AllFull
+  filters-stopped : {r : Option ℕ} → r ≡ all_answer (new_bytes Filters session v.text id name) (length v.filters) (filter_area v) → r ≡ None
       → (v.counts.filters < length w.filters)
       × Stopped filter_codec long_filter v.counts.filters v.filters (all_pushed (new_bytes Filters session v.text id name) (length v.filters) (filter_area v))
   unfolding new_bytes over_filled effect change filter_change filter_rows filled_filters
@@ -386,7 +384,7 @@ module _ {session at₁ at₂ at₃ end : ℕ} {id s : List ℕ} {name : Option 
       stopped_told filter_reads filter_rows_lem v.counts.filters filters_size (filter_rows v.text id name) v.filters (filters_short session id id_fits (filled v.text id name) under)
       F.filter_texts F.filters (new_filters session id id_fits (filled v.text id name) under) told e
 
-  eqs_used_lem : {r : PushedAll} {n : ℕ} → r ≡ all_answer (new_bytes Eqs session v.text id name) (length v.eqs) (eq_area v) → r ≡ Used n
+  eqs_used_lem : {r : Option ℕ} {n : ℕ} → r ≡ all_answer (new_bytes Eqs session v.text id name) (length v.eqs) (eq_area v) → r ≡ Some n
       → (length w.eqs ≤ v.counts.eqs) × (n ≡ length w.eqs)
       × (all_pushed (new_bytes Eqs session v.text id name) (length v.eqs) (eq_area v) ≡ area eq_codec v.counts.eqs w.eqs)
   unfolding new_bytes over_filled effect change new_eqs eq_rows filled_eqs
@@ -394,7 +392,7 @@ module _ {session at₁ at₂ at₃ end : ℕ} {id s : List ℕ} {name : Option 
       used_told eq_reads eq_rows_lem v.counts.eqs eqs_size (eq_rows v.text id name) v.eqs (eqs_short session id (filled v.text id name) under)
       F.eq_texts F.eqs (new_eqs_lem session id (filled v.text id name) under) told e
 
-  eqs-stopped : {r : PushedAll} → r ≡ all_answer (new_bytes Eqs session v.text id name) (length v.eqs) (eq_area v) → r ≡ AllFull
+  eqs-stopped : {r : Option ℕ} → r ≡ all_answer (new_bytes Eqs session v.text id name) (length v.eqs) (eq_area v) → r ≡ None
       → (v.counts.eqs < length w.eqs)
       × Stopped eq_codec long_eq v.counts.eqs v.eqs (all_pushed (new_bytes Eqs session v.text id name) (length v.eqs) (eq_area v))
   unfolding new_bytes over_filled effect change new_eqs eq_rows filled_eqs
@@ -402,7 +400,7 @@ module _ {session at₁ at₂ at₃ end : ℕ} {id s : List ℕ} {name : Option 
       stopped_told eq_reads eq_rows_lem v.counts.eqs eqs_size (eq_rows v.text id name) v.eqs (eqs_short session id (filled v.text id name) under)
       F.eq_texts F.eqs (new_eqs_lem session id (filled v.text id name) under) told e
 
-  notes_used_lem : {r : PushedAll} {n : ℕ} → r ≡ all_answer (new_bytes Notes session v.text id name) (length v.notes) (note_area v) → r ≡ Used n
+  notes_used_lem : {r : Option ℕ} {n : ℕ} → r ≡ all_answer (new_bytes Notes session v.text id name) (length v.notes) (note_area v) → r ≡ Some n
       → (length w.notes ≤ v.counts.notes) × (n ≡ length w.notes)
       × (all_pushed (new_bytes Notes session v.text id name) (length v.notes) (note_area v) ≡ area note_codec v.counts.notes w.notes)
   unfolding new_bytes over_filled effect change note_change note_rows filled_filters
@@ -410,7 +408,7 @@ module _ {session at₁ at₂ at₃ end : ℕ} {id s : List ℕ} {name : Option 
       used_told note_reads note_rows_lem v.counts.notes notes_size (note_rows session v.text id name) v.notes (notes_short session id (filled v.text id name) under)
       F.note_texts F.notes (new_notes session id (filled v.text id name) under) told e
 
-  notes-stopped : {r : PushedAll} → r ≡ all_answer (new_bytes Notes session v.text id name) (length v.notes) (note_area v) → r ≡ AllFull
+  notes-stopped : {r : Option ℕ} → r ≡ all_answer (new_bytes Notes session v.text id name) (length v.notes) (note_area v) → r ≡ None
       → (v.counts.notes < length w.notes)
       × Stopped note_codec long_note v.counts.notes v.notes (all_pushed (new_bytes Notes session v.text id name) (length v.notes) (note_area v))
   unfolding new_bytes over_filled effect change note_change note_rows filled_filters
@@ -552,12 +550,12 @@ module _ {session at₁ at₂ at₃ end : ℕ} {id s : List ℕ} {name : Option 
     asks_notes = let b = bounds in let l = whole_length in (id_fits, ((omega arith, omega arith, b.3, omega arith), asked))
 
   -- what it ensures
-  abbrev pub Pushes : Table → ℕ → ℕ → ℕ → List ℕ → PushedAll → List ℕ → Type 0
+  abbrev pub Pushes : Table → ℕ → ℕ → ℕ → List ℕ → Option ℕ → List ℕ → Type 0
   Pushes table from to earlier t r t₁ =
       (r ≡ all_answer (new_bytes table session (rules (16 + shape.text) t) id name) earlier (mid_of from (to - from) t))
       × (t₁ ≡ take from t ++ (all_pushed (new_bytes table session (rules (16 + shape.text) t) id name) earlier (mid_of from (to - from) t) ++ drop to t))
 
-  pushed_table : {r : PushedAll} {t t₁ st : List ℕ} {from to earlier : ℕ} (table : Table) (from₁ to₁ earlier₁ : ℕ) (part : List ℕ) (whole : List ℕ → List ℕ)
+  pushed_table : {r : Option ℕ} {t t₁ st : List ℕ} {from to earlier : ℕ} (table : Table) (from₁ to₁ earlier₁ : ℕ) (part : List ℕ) (whole : List ℕ → List ℕ)
       → t ≡ st → rules (16 + shape.text) t ≡ v.text → mid_of from₁ (to₁ - from₁) st ≡ part → ((f : List ℕ → List ℕ) → replaced from₁ to₁ f st ≡ whole (f part))
       → from ≡ from₁ → to ≡ to₁ → earlier ≡ earlier₁ → Pushes table from to earlier t r t₁
       → (r ≡ all_answer (new_bytes table session v.text id name) earlier₁ part) × (t₁ ≡ whole (all_pushed (new_bytes table session v.text id name) earlier₁ part))
@@ -569,15 +567,15 @@ module _ {session at₁ at₂ at₃ end : ℕ} {id s : List ℕ} {name : Option 
         ∙ ((λ i. replaced (a i) (b i) (all_pushed (new_bytes table session (text i) id name) (d i)) (q i)) ∙ p (all_pushed (new_bytes table session v.text id name) earlier₁)),
   )
 
-  filters_called : {t₁ : List ℕ} {r : PushedAll} → Pushes Filters at₁ at₂ shape.filters s r t₁
+  filters_called : {t₁ : List ℕ} {r : Option ℕ} → Pushes Filters at₁ at₂ shape.filters s r t₁
       → (r ≡ all_answer (new_bytes Filters session v.text id name) (length v.filters) (filter_area v))
       × (t₁ ≡ state v (all_pushed (new_bytes Filters session v.text id name) (length v.filters) (filter_area v)) (eq_area v) (note_area v))
   filters_called h =
       pushed_table Filters _ _ _ (filter_area v) (λ l. state v l (eq_area v) (note_area v)) start (text_is (filter_area v) (eq_area v) (note_area v) start) (mid_filters v F _ _ _ sized) (put_filters v F _ _ _ sized)
       at_filters at_eqs (ap (λ (h : Shape). h.filters) G.shaped) h
 
-  pub filters_full : {t₁ t₂ : List ℕ} {r : PushedAll} → Pushes Filters at₁ at₂ shape.filters s r t₁ → r ≡ AllFull
-      → t₂ ≡ put_back shape shape.counts.filters shape.eqs shape.notes t₁ → (some 8 ≡ cause event (view s)) × (t₂ ≡ after event s)
+  pub filters_full : {t₁ t₂ : List ℕ} {r : Option ℕ} → Pushes Filters at₁ at₂ shape.filters s r t₁ → r ≡ None
+      → t₂ ≡ put_back shape shape.counts.filters shape.eqs shape.notes t₁ → (Some 8 ≡ cause event (view s)) × (t₂ ≡ after event s)
   filters_full {t₁} h full e =
       let p = filters_called h in
       let S = filters-stopped p.0 full in
@@ -603,7 +601,7 @@ module _ {session at₁ at₂ at₃ end : ℕ} {id s : List ℕ} {name : Option 
     pub count : n ≡ length w.notes
     pub left : t ≡ state v FA EA NA
 
-  pub filters_added : {t : List ℕ} {r : PushedAll} {n : ℕ} → Pushes Filters at₁ at₂ shape.filters s r t → r ≡ Used n → FiltersAdded n t
+  pub filters_added : {t : List ℕ} {r : Option ℕ} {n : ℕ} → Pushes Filters at₁ at₂ shape.filters s r t → r ≡ Some n → FiltersAdded n t
   filters_added h e =
       let p = filters_called h in
       let U = filters_used_lem p.0 e in
@@ -613,15 +611,15 @@ module _ {session at₁ at₂ at₃ end : ℕ} {id s : List ℕ} {name : Option 
     pub sized₁ : Sized v FA (eq_area v) (note_area v)
     sized₁ = record { filters = filters_length A.fits; eqs = sized.eqs; notes = sized.notes }
 
-    eqs_called : {t₁ : List ℕ} {r : PushedAll} → Pushes Eqs at₂ at₃ shape.eqs t r t₁
+    eqs_called : {t₁ : List ℕ} {r : Option ℕ} → Pushes Eqs at₂ at₃ shape.eqs t r t₁
         → (r ≡ all_answer (new_bytes Eqs session v.text id name) (length v.eqs) (eq_area v))
         × (t₁ ≡ state v FA (all_pushed (new_bytes Eqs session v.text id name) (length v.eqs) (eq_area v)) (note_area v))
     eqs_called h =
         pushed_table Eqs _ _ _ (eq_area v) (λ l. state v FA l (note_area v)) A.left (text_is FA (eq_area v) (note_area v) A.left) (mid_eqs v F _ _ _ sized₁) (put_eqs v F _ _ _ sized₁)
         at_eqs at_notes (ap (λ (h : Shape). h.eqs) G.shaped) h
 
-    pub eqs_full : {t₁ t₂ : List ℕ} {r : PushedAll} → Pushes Eqs at₂ at₃ shape.eqs t r t₁ → r ≡ AllFull
-        → t₂ ≡ put_back shape n shape.counts.eqs shape.notes t₁ → (some 9 ≡ cause event (view s)) × (t₂ ≡ after event s)
+    pub eqs_full : {t₁ t₂ : List ℕ} {r : Option ℕ} → Pushes Eqs at₂ at₃ shape.eqs t r t₁ → r ≡ None
+        → t₂ ≡ put_back shape n shape.counts.eqs shape.notes t₁ → (Some 9 ≡ cause event (view s)) × (t₂ ≡ after event s)
     eqs_full {t₁} h full e =
         let p = eqs_called h in
         let S = eqs-stopped p.0 full in
@@ -633,7 +631,7 @@ module _ {session at₁ at₂ at₃ end : ℕ} {id s : List ℕ} {name : Option 
         let back = state_back v F (length w.filters) v.counts.eqs (length v.notes) size size₁ sized (filters_back A.fits) (eqs_stop_back S.1) (none_back note_size (length v.notes) (note_area v)) in
         refused_as 9 (store_cause ∙ rw (le-ltb v.counts.filters (length w.filters) A.fits, lt-ltb v.counts.eqs (length w.eqs) S.0)) (e ∙ (put ∙ (back ∙ sym start)))
 
-    pub eqs_added : {t₁ : List ℕ} {r : PushedAll} {m : ℕ} → Pushes Eqs at₂ at₃ shape.eqs t r t₁ → r ≡ Used m → EqsAdded m t₁
+    pub eqs_added : {t₁ : List ℕ} {r : Option ℕ} {m : ℕ} → Pushes Eqs at₂ at₃ shape.eqs t r t₁ → r ≡ Some m → EqsAdded m t₁
     eqs_added h e =
         let p = eqs_called h in
         let U = eqs_used_lem p.0 e in
@@ -643,15 +641,15 @@ module _ {session at₁ at₂ at₃ end : ℕ} {id s : List ℕ} {name : Option 
       pub sized₂ : Sized v FA EA (note_area v)
       sized₂ = record { filters = filters_length A.fits; eqs = eqs_length B.fits; notes = sized.notes }
 
-      notes_called : {t₂ : List ℕ} {r : PushedAll} → Pushes Notes at₃ end shape.notes t₁ r t₂
+      notes_called : {t₂ : List ℕ} {r : Option ℕ} → Pushes Notes at₃ end shape.notes t₁ r t₂
           → (r ≡ all_answer (new_bytes Notes session v.text id name) (length v.notes) (note_area v))
           × (t₂ ≡ state v FA EA (all_pushed (new_bytes Notes session v.text id name) (length v.notes) (note_area v)))
       notes_called h =
           pushed_table Notes _ _ _ (note_area v) (λ l. state v FA EA l) B.left (text_is FA EA (note_area v) B.left) (mid_notes v F _ _ _ sized₂) (put_notes v F _ _ _ sized₂)
           at_notes at_end (ap (λ (h : Shape). h.notes) G.shaped) h
 
-      pub notes_full : {t₂ t₃ : List ℕ} {r : PushedAll} → Pushes Notes at₃ end shape.notes t₁ r t₂ → r ≡ AllFull
-          → t₃ ≡ put_back shape n m shape.counts.notes t₂ → (some 10 ≡ cause event (view s)) × (t₃ ≡ after event s)
+      pub notes_full : {t₂ t₃ : List ℕ} {r : Option ℕ} → Pushes Notes at₃ end shape.notes t₁ r t₂ → r ≡ None
+          → t₃ ≡ put_back shape n m shape.counts.notes t₂ → (Some 10 ≡ cause event (view s)) × (t₃ ≡ after event s)
       notes_full {t₂} h full e =
           let p = notes_called h in
           let S = notes-stopped p.0 full in
@@ -666,7 +664,7 @@ module _ {session at₁ at₂ at₃ end : ℕ} {id s : List ℕ} {name : Option 
           (store_cause ∙ rw (le-ltb v.counts.filters (length w.filters) A.fits, le-ltb v.counts.eqs (length w.eqs) B.fits, lt-ltb v.counts.notes (length w.notes) S.0))
           (e ∙ (put ∙ (back ∙ sym start)))
 
-      pub notes_added : {t₂ : List ℕ} {r : PushedAll} {k : ℕ} → Pushes Notes at₃ end shape.notes t₁ r t₂ → r ≡ Used k → NotesAdded k t₂
+      pub notes_added : {t₂ : List ℕ} {r : Option ℕ} {k : ℕ} → Pushes Notes at₃ end shape.notes t₁ r t₂ → r ≡ Some k → NotesAdded k t₂
       notes_added h e =
           let p = notes_called h in
           let U = notes_used_lem p.0 e in
@@ -674,10 +672,10 @@ module _ {session at₁ at₂ at₃ end : ℕ} {id s : List ℕ} {name : Option 
 
       -- the numbers in the header
       pub all_added : {t₂ t₃ t₄ t₅ : List ℕ} {k : ℕ} → NotesAdded k t₂ → t₃ ≡ pasted 10 (u16 n) t₂ → t₄ ≡ pasted 12 (u16 m) t₃ → t₅ ≡ pasted 14 (u16 k) t₄
-          → (none ≡ cause event (view s)) × (t₅ ≡ after event s)
+          → (None ≡ cause event (view s)) × (t₅ ≡ after event s)
       unfolding after stored
       all_added {k = k} C e₁ e₂ e₃ =
-          let done : cause event (some v) ≡ none
+          let done : cause event (Some v) ≡ None
           = store_cause ∙ rw (le-ltb v.counts.filters (length w.filters) A.fits, le-ltb v.counts.eqs (length w.eqs) B.fits, le-ltb v.counts.notes (length w.notes) C.fits) in
           let put = e₃ ∙ (ap (pasted 14 (u16 k)) (e₂ ∙ ap (pasted 12 (u16 m)) e₁) ∙ (λ i. pasted 14 (u16 (C.count i)) (pasted 12 (u16 (B.count i)) (pasted 10 (u16 (A.count i)) (C.left i))))) in
           let laid = put ∙ (put_used v.counts (length v.text) (length v.filters) (length v.eqs) (length v.notes) (pad v.counts.bytes v.text ++ (FA ++ (EA ++ NA))) (length w.filters) (length w.eqs) (length w.notes) ∙ laid_out) in

@@ -4,8 +4,10 @@ use Prim.Native.Nat.{ℕ, zero, suc, ◌+◌, ◌-◌, ◌≤◌, ◌<◌}
 use mathlib.Core.Path.{◌≡◌, refl, sym, ap, subst, ◌∙◌}
 use mathlib.Core.Bool.{Bool, true, false, ◌&&◌, ◌||◌, not, cond, or-false, or_assoc}
 use mathlib.Core.List.{List, [], ◌∷◌, ◌++◌, map}
-use mathlib.Core.Option
-use mathlib.Core.Option.{Option, none, some, bind}
+use Rattle.std.specs.Prelude.{Option, None, Some, Ok, Err, Result}
+use Rattle.std.specs.Option.{option_map}
+use Rattle.std.specs.Result.{result_ok}
+use Rattle.text.specs.Maybe.{bind}
 use native.Mathlib.Omega.{arith}
 use borrow.Author.Tests.{le-leb, lt-leb, ltb-true, ltb-false}
 use lib.Dec.{leb, ltb}
@@ -14,8 +16,6 @@ use Rattle.text.proofs.Laws.{or_split, written-take}
 use Rattle.json_text.specs.Strings.{string_at}
 use Rattle.json_text.specs.Json.{Elements, no_element, element, depth_limit, line_value, longest, longest_element}
 use Rattle.json_text.specs.Lines.{line_at, next_line}
-use Rattle.json_text.specs.declared.Place.{Place}
-use Rattle.json_text.specs.declared.Place.TheVariants.{At, Nowhere}
 use Rattle.json_text.proofs.ValueLaws.{value_next}
 use Rattle.json_text.proofs.AccessLaws.{element_place, ElementsIn, array_is}
 use Rattle.json_text.proofs.LineLaws.{lines_here, lines_past, line_within, next_after}
@@ -25,14 +25,11 @@ use Rattle.rule.specs.Limits.{text_limit, id_limit}
 use Rattle.rule.specs.Rule as spec
 use Rattle.rule.specs.Rule.{Value, Rule, TopicOf, means, topic_means, as_array, is_template, topic_of, topics_in, topics_of}
 use Rattle.rule.specs.Fill.{fill}
-use Rattle.rule.specs.RuleText.{Result, refused, gives, read_rule, rule_on, rules_of, Filled, filled_topics, listed, filled_rules, filled}
-use Rattle.rule.specs.Places.{value_of, placed_topic, topic_answer, topics_place, fourth_of, rule_answer, placed_rule, filling, filled_into, filling_at, filled_at}
+use Rattle.rule.specs.RuleText.{read_rule, rule_on, rules_of, Filled, filled_topics, listed, filled_rules, filled}
+use Rattle.rule.specs.Places.{value_of, placed_topic, topic_answer, place_of, fourth_of, rule_answer, placed_rule, filling, filled_into, filling_at, filled_at}
+use Rattle.rule.specs.declared.Rule.{Rule as PlacedRule}
 use Rattle.rule.specs.declared.Topic.{Topic}
-use Rattle.rule.specs.declared.Topic.TheVariants.{Filter, Template, Eq, EqTemplate, Bad}
-use Rattle.rule.specs.declared.RuleRead.{RuleRead}
-use Rattle.rule.specs.declared.RuleRead.TheVariants.{Rule as RuleIs, Refused}
-use Rattle.rule.specs.declared.Filling.{Filling}
-use Rattle.rule.specs.declared.Filling.TheVariants.{Length as FilledTo, TooLong as FilledOver}
+use Rattle.rule.specs.declared.Topic.TheVariants.{Filter, Template, Eq, EqTemplate}
 use Rattle.rule.proofs.FillLaws.{fillable_fits}
 use Rattle.rule.proofs.RuleLaws.{Stands, value-stands}
 use Rattle.rule.proofs.IdentityLaws.{Stands as TextStands, Listed as OrNone, unlisted, listed as is-listed}
@@ -42,55 +39,57 @@ use Rattle.store.specs.Store.{over}
 use Rattle.events.specs.Templates.{first_of, first_in, first_topic, next_topic, if_template, template_at, filled_as, topic_filling, topic_filled, filled_template, filled_from, over_filled}
 use Rattle.events.specs.declared.FilledTopic.{FilledTopic}
 use Rattle.events.specs.declared.FilledTopic.TheVariants.{Static, TooLong as FillsOver, Filter as FilterOf, Eq as EqOf}
+use Rattle.rule.specs.declared.Refusal.{Refusal}
 
 -- ---- the first topic, by what `read_rule` answers
 
-unfoldable pub first_by : List ℕ → RuleRead → Place
-first_by line (Refused cause) = Nowhere
-first_by line (RuleIs r) = first_of line r.topics
+unfoldable pub first_by : List ℕ → Option PlacedRule → Option ℕ
+first_by line None = None
+first_by line (Some r) = first_of line r.topics
 
-pub first_by_lem : (line : List ℕ) {answer read : RuleRead} → answer ≡ rule_answer (fourth_of (line_value line)) (read_rule line) → answer ≡ read → first_topic line ≡ first_by line read
+pub first_by_lem : (line : List ℕ) {answer : Result PlacedRule Refusal} {read : Option PlacedRule}
+    → answer ≡ rule_answer (fourth_of (line_value line)) (read_rule line) → result_ok answer ≡ read → first_topic line ≡ first_by line read
 unfolding first_topic first_in first_by rule_answer placed_rule
-first_by_lem line e is = by (read_rule line) ∙ ap (first_by line) (sym e ∙ is)
+first_by_lem line e is = by (read_rule line) ∙ ap (first_by line) (sym (ap result_ok e) ∙ is)
   where
-    by : (o : Result Rule) → first_in line o ≡ first_by line (rule_answer (fourth_of (line_value line)) o)
-    by (refused cause) = refl
-    by (gives r) = refl
+    by : (o : Result Rule Refusal) → first_in line o ≡ first_by line (result_ok (rule_answer (fourth_of (line_value line)) o))
+    by (Err cause) = refl
+    by (Ok r) = refl
 
 -- ---- a topic at its place
 
 module _ (line buffer id : List ℕ) (name : Option (List ℕ)) where
   -- what filling answers and leaves in the buffer, by what the topic at the place is
-  unfoldable pub fills_by : Topic → FilledTopic
-  fills_by (Filter p) = Static
-  fills_by (Template p) = filled_as false (filling_at (length buffer) (string_at line p) id name)
-  fills_by (Eq p) = Static
-  fills_by (EqTemplate p) = filled_as true (filling_at (length buffer) (string_at line p) id name)
-  fills_by Bad = Static
+  unfoldable pub fills_by : Option Topic → FilledTopic
+  fills_by (Some (Filter p)) = Static
+  fills_by (Some (Template p)) = filled_as false (filling_at (length buffer) (string_at line p) id name)
+  fills_by (Some (Eq p)) = Static
+  fills_by (Some (EqTemplate p)) = filled_as true (filling_at (length buffer) (string_at line p) id name)
+  fills_by None = Static
 
-  unfoldable pub leaves_by : Topic → List ℕ
-  leaves_by (Filter p) = buffer
-  leaves_by (Template p) = filled_at buffer (string_at line p) id name
-  leaves_by (Eq p) = buffer
-  leaves_by (EqTemplate p) = filled_at buffer (string_at line p) id name
-  leaves_by Bad = buffer
+  unfoldable pub leaves_by : Option Topic → List ℕ
+  leaves_by (Some (Filter p)) = buffer
+  leaves_by (Some (Template p)) = filled_at buffer (string_at line p) id name
+  leaves_by (Some (Eq p)) = buffer
+  leaves_by (Some (EqTemplate p)) = filled_at buffer (string_at line p) id name
+  leaves_by None = buffer
 
   -- what `fill_topic` answers for a topic at a place, and leaves in the buffer
   abbrev pub FillsTopic : ℕ → FilledTopic → List ℕ → Type 0
   FillsTopic at answer after = (answer ≡ topic_filling (length buffer) id name (template_at line at)) × (after ≡ topic_filled buffer id name (template_at line at))
 
   -- filling at a place is by what stands there
-  pub fills_by_lem : (at : ℕ) {answer : Topic} → topic_answer (bind (value_of line at) topic_of) ≡ answer → FillsTopic at (fills_by answer) (leaves_by answer)
+  pub fills_by_lem : (at : ℕ) {answer : Option Topic} → topic_answer (bind (value_of line at) topic_of) ≡ answer → FillsTopic at (fills_by answer) (leaves_by answer)
   unfolding template_at if_template topic_means topic_answer placed_topic topic_filling topic_filled fills_by leaves_by bind
   fills_by_lem at e = (ap fills_by (sym e) ∙ whole.0, ap leaves_by (sym e) ∙ whole.1)
     where
       tests : (t : spec.Topic) → TextStands line t.text → (long template eq : Bool)
           → (fills_by
-          (cond long Bad (cond eq (cond template (EqTemplate t.text.at) (Eq t.text.at)) (cond template (Template t.text.at) (Filter t.text.at))))
-          ≡ topic_filling (length buffer) id name (cond (not long && template) (some (record { eq = eq; text = t.text.text })) none))
+          (cond long None (cond eq (cond template (Some (EqTemplate t.text.at)) (Some (Eq t.text.at))) (cond template (Some (Template t.text.at)) (Some (Filter t.text.at)))))
+          ≡ topic_filling (length buffer) id name (cond (not long && template) (Some (record { eq = eq; text = t.text.text })) None))
           × (leaves_by
-          (cond long Bad (cond eq (cond template (EqTemplate t.text.at) (Eq t.text.at)) (cond template (Template t.text.at) (Filter t.text.at))))
-          ≡ topic_filled buffer id name (cond (not long && template) (some (record { eq = eq; text = t.text.text })) none))
+          (cond long None (cond eq (cond template (Some (EqTemplate t.text.at)) (Some (Eq t.text.at))) (cond template (Some (Template t.text.at)) (Some (Filter t.text.at)))))
+          ≡ topic_filled buffer id name (cond (not long && template) (Some (record { eq = eq; text = t.text.text })) None))
       tests t s true template eq = (refl, refl)
       tests t s false true true = let f = fills_topic line buffer t.text id name s in (ap (filled_as true) f.0, f.1)
       tests t s false true false = let f = fills_topic line buffer t.text id name s in (ap (filled_as false) f.0, f.1)
@@ -108,47 +107,50 @@ module _ (line buffer id : List ℕ) (name : Option (List ℕ)) where
       whole = by (bind (value_of line at) topic_of) (topic_at_stands line at)
 
   -- where a template stands
-  pub fills_template : (at : ℕ) (eq : Bool) (p : ℕ) {found : Topic} {told : Filling} {answer : FilledTopic} {after : List ℕ}
-      → found ≡ topic_answer (bind (value_of line at) topic_of) → found ≡ cond eq (EqTemplate p) (Template p)
+  pub fills_template : (at : ℕ) (eq : Bool) (p : ℕ) {found : Option Topic} {told : Option ℕ} {answer : FilledTopic} {after : List ℕ}
+      → found ≡ topic_answer (bind (value_of line at) topic_of) → found ≡ cond eq (Some (EqTemplate p)) (Some (Template p))
       → told ≡ filling_at (length buffer) (string_at line p) id name → after ≡ filled_at buffer (string_at line p) id name → answer ≡ filled_as eq told
       → FillsTopic at answer after
   unfolding fills_by leaves_by
   fills_template at true p e is t w a = let f = fills_by_lem at (sym e ∙ is) in (a ∙ (ap (filled_as true) t ∙ f.0), w ∙ f.1)
   fills_template at false p e is t w a = let f = fills_by_lem at (sym e ∙ is) in (a ∙ (ap (filled_as false) t ∙ f.0), w ∙ f.1)
 
-  -- where no template stands
-  pub fills_none : (at : ℕ) (t : Topic) → t ≡ topic_answer (bind (value_of line at) topic_of)
+  -- where no topic stands, or one that is no template
+  pub fills_nowhere : (at : ℕ) {found : Option Topic} → found ≡ topic_answer (bind (value_of line at) topic_of) → found ≡ None → FillsTopic at Static buffer
+  unfolding fills_by leaves_by
+  fills_nowhere at e is = fills_by_lem at (sym e ∙ is)
+
+  pub fills_none : (at : ℕ) (t : Topic) {found : Option Topic} → found ≡ topic_answer (bind (value_of line at) topic_of) → found ≡ Some t
       → ((p : ℕ) → t ≡ Template p → ⊥) → ((p : ℕ) → t ≡ EqTemplate p → ⊥) → FillsTopic at Static buffer
   unfolding fills_by leaves_by
-  fills_none at (Filter p) e m q = fills_by_lem at (sym e)
-  fills_none at (Template p) e m q = absurd (m p refl)
-  fills_none at (Eq p) e m q = fills_by_lem at (sym e)
-  fills_none at (EqTemplate p) e m q = absurd (q p refl)
-  fills_none at Bad e m q = fills_by_lem at (sym e)
+  fills_none at (Filter p) e is m q = fills_by_lem at (sym e ∙ is)
+  fills_none at (Template p) e is m q = absurd (m p refl)
+  fills_none at (Eq p) e is m q = fills_by_lem at (sym e ∙ is)
+  fills_none at (EqTemplate p) e is m q = absurd (q p refl)
 
 -- ---- the topics of a rule that was read
 
 -- so it is a template at its place if it is one
-pub template_here : (line : List ℕ) (v : Value) (t : spec.Topic) → Stands line (some v) → topic_of v ≡ some t
-    → template_at line v.at ≡ cond (is_template (topic_means t).text) (some (topic_means t)) none
+pub template_here : (line : List ℕ) (v : Value) (t : spec.Topic) → Stands line (Some v) → topic_of v ≡ Some t
+    → template_at line v.at ≡ cond (is_template (topic_means t).text) (Some (topic_means t)) None
 unfolding template_at if_template bind topic_means
 template_here line v t h e =
     let is = ap (λ (o : Option Value). bind o topic_of) (value-stands line v h) ∙ e in
     ap (λ (o : Option spec.Topic). bind o (λ t. if_template (topic_means t))) is
-    ∙ ap (λ (b : Bool). cond (not b && is_template t.text.text) (some (topic_means t)) none) (topic_under v t h.2 e)
+    ∙ ap (λ (b : Bool). cond (not b && is_template t.text.text) (Some (topic_means t)) None) (topic_under v t h.2 e)
 
 -- ---- the walk over a line's topics
 
 module _ (n : ℕ) (id : List ℕ) (name : Option (List ℕ)) (line : List ℕ) where
   pub walk_step : (b : Bool) (t : TopicOf (List ℕ)) (rest : List Filled)
-      → filled_template n id name (cond b (some t) none) ++ rest ≡ cond b (record { rule = n; eq = t.eq; text = fill t.text id name } ∷ rest) rest
+      → filled_template n id name (cond b (Some t) None) ++ rest ≡ cond b (record { rule = n; eq = t.eq; text = fill t.text id name } ∷ rest) rest
   unfolding filled_template
   walk_step true t rest = refl
   walk_step false t rest = refl
 
   -- the templates by their places are those of the tree, with any fuel that reaches the end
   pub walk : (most low high : ℕ) (es : Elements) (ts : List spec.Topic) → ElementsIn line low high es → high - low ≤ most → longest_element es ≤ text_limit
-      → topics_in es ≡ some ts → filled_from most n id name line (element_place es) ≡ filled_topics n id name (map topic_means ts)
+      → topics_in es ≡ Some ts → filled_from most n id name line (element_place es) ≡ filled_topics n id name (map topic_means ts)
   unfolding filled_from element_place topics_in longest_element filled_topics next_topic
   walk zero low high no_element ts h k l e = let all : [] ≡ ts = cc in ap (λ (us : List spec.Topic). filled_topics n id name (map topic_means us)) all
   walk (suc most) low high no_element ts h k l e = let all : [] ≡ ts = cc in ap (λ (us : List spec.Topic). filled_topics n id name (map topic_means us)) all
@@ -162,22 +164,22 @@ module _ (n : ℕ) (id : List ℕ) (name : Option (List ℕ)) (line : List ℕ) 
       ∙ (walk_step (is_template (topic_means t.0).text) (topic_means t.0) (filled_topics n id name (map topic_means us.0))
       ∙ ap (λ (us : List spec.Topic). filled_topics n id name (map topic_means us)) us.2)
 
-  pub walk_none : (most : ℕ) → filled_from most n id name line Nowhere ≡ []
+  pub walk_none : (most : ℕ) → filled_from most n id name line None ≡ []
   unfolding filled_from
   walk_none zero = refl
   walk_none (suc most) = refl
 
   -- those of the topics that a rule may list
   abbrev pub listed_of : Option (List spec.Topic) → List Filled
-  listed_of o = filled_topics n id name (elim (Option.map (map topic_means) o) as (λ _. List (TopicOf (List ℕ))) [ none ↦ [] | some topics ↦ topics ])
+  listed_of o = filled_topics n id name (elim (option_map (map topic_means) o) as (λ _. List (TopicOf (List ℕ))) [ None ↦ [] | Some topics ↦ topics ])
 
   pub walk_fourth : (most : ℕ) (r : Rule) (o : Option Value) → length line ≤ most → FourthIs line r o
-      → filled_from most n id name line (first_of line (topics_place o)) ≡ filled_topics n id name (listed (some (means r)))
-  unfolding first_of topics_place topics_of means longest listed filled_topics
-  walk_fourth most r none k h =
-      let all : none ≡ r.topics = cc in
+      → filled_from most n id name line (first_of line (place_of o)) ≡ filled_topics n id name (listed (Some (means r)))
+  unfolding first_of place_of topics_of means longest listed filled_topics
+  walk_fourth most r None k h =
+      let all : None ≡ r.topics = cc in
       walk_none most ∙ ap listed_of all
-  walk_fourth most r (some v) k h =
+  walk_fourth most r (Some v) k h =
       let es = bound (as_array v) _ h.1 in
       let ts = mapped (topics_in es.0) _ es.2 in
       let is = array-value v es.1 in
@@ -193,25 +195,25 @@ module _ (n : ℕ) (id : List ℕ) (name : Option (List ℕ)) (line : List ℕ) 
   unfolding first_topic first_in rule_on listed filled_topics
   walk_line most k = by (read_rule line) refl
     where
-      by : (o : Result Rule) → read_rule line ≡ o → filled_from most n id name line (first_in line o) ≡ filled_topics n id name (listed (rule_on o))
-      by (refused cause) e = walk_none most
-      by (gives r) e = walk_fourth most r (fourth_of (line_value line)) k (fourth_is line e)
+      by : (o : Result Rule Refusal) → read_rule line ≡ o → filled_from most n id name line (first_in line o) ≡ filled_topics n id name (listed (rule_on o))
+      by (Err cause) e = walk_none most
+      by (Ok r) e = walk_fourth most r (fourth_of (line_value line)) k (fourth_is line e)
 
   -- one topic of the walk
-  pub walk_topic : (most : ℕ) {place : Place} {p : ℕ} → 0 < most → place ≡ At p
+  pub walk_topic : (most : ℕ) {place : Option ℕ} {p : ℕ} → 0 < most → place ≡ Some p
       → filled_from most n id name line place ≡ filled_template n id name (template_at line p) ++ filled_from (most - 1) n id name line (next_topic line p)
   unfolding filled_from
   walk_topic most {p = p} h e = ap (filled_from most n id name line) e ∙ by most h
     where
-      by : (m : ℕ) → 0 < m → filled_from m n id name line (At p) ≡ filled_template n id name (template_at line p) ++ filled_from (m - 1) n id name line (next_topic line p)
+      by : (m : ℕ) → 0 < m → filled_from m n id name line (Some p) ≡ filled_template n id name (template_at line p) ++ filled_from (m - 1) n id name line (next_topic line p)
       by zero k = absurd (omega arith)
       by (suc m) k = let less : m ≡ suc m - 1 = omega arith in λ i. filled_template n id name (template_at line p) ++ filled_from (less i) n id name line (next_topic line p)
 
   -- no topic is left
-  pub walk_end : (most : ℕ) {place : Place} → place ≡ Nowhere → filled_from most n id name line place ≡ []
+  pub walk_end : (most : ℕ) {place : Option ℕ} → place ≡ None → filled_from most n id name line place ≡ []
   walk_end most e = ap (filled_from most n id name line) e ∙ walk_none most
 
-  pub walk_out : (most : ℕ) (place : Place) → most ≤ 0 → filled_from most n id name line place ≡ []
+  pub walk_out : (most : ℕ) (place : Option ℕ) → most ≤ 0 → filled_from most n id name line place ≡ []
   unfolding filled_from
   walk_out most place h = let none_left : most ≡ 0 = omega arith in rw none_left
 
@@ -277,12 +279,12 @@ pub filling-over : (eq : Bool) (template id : List ℕ) (name : Option (List ℕ
     → is_over (filled_as eq (filling text_limit template id name)) ≡ over text_limit (fill template id name)
 unfolding filling filled_as is_over
 filling-over eq template id name h e =
-    ap (λ (b : Bool). is_over (filled_as eq (cond (b && leb (length (fill template id name)) text_limit) (FilledTo (length (fill template id name))) FilledOver)))
+    ap (λ (b : Bool). is_over (filled_as eq (cond (b && leb (length (fill template id name)) text_limit) (Some (length (fill template id name))) None)))
     (fillable_fits template id (ltb-false text_limit (length template) e) h)
     ∙ by eq (ltb text_limit (length (fill template id name))) refl
   where
     by : (eq b : Bool) → ltb text_limit (length (fill template id name)) ≡ b
-        → is_over (filled_as eq (cond (leb (length (fill template id name)) text_limit) (FilledTo (length (fill template id name))) FilledOver)) ≡ b
+        → is_over (filled_as eq (cond (leb (length (fill template id name)) text_limit) (Some (length (fill template id name))) None)) ≡ b
     by true true q = rw (lt-leb (length (fill template id name)) text_limit (ltb-true text_limit (length (fill template id name)) q))
     by false true q = rw (lt-leb (length (fill template id name)) text_limit (ltb-true text_limit (length (fill template id name)) q))
     by true false q = rw (le-leb (length (fill template id name)) text_limit (ltb-false text_limit (length (fill template id name)) q))
@@ -295,15 +297,15 @@ topic_over n id name line p h whole told =
     by (bind (value_of line p) topic_of) ∙ sym (ap is_over (told ∙ ap (λ (room : ℕ). topic_filling room id name (template_at line p)) whole))
   where
     tests : (t : TopicOf (List ℕ)) (long template : Bool) → over text_limit t.text ≡ long
-        → some_row is_long (filled_template n id name (cond (not long && template) (some t) none)) ≡ is_over (topic_filling text_limit id name (cond (not long && template) (some t) none))
+        → some_row is_long (filled_template n id name (cond (not long && template) (Some t) None)) ≡ is_over (topic_filling text_limit id name (cond (not long && template) (Some t) None))
     tests t true template q = refl
     tests t false true q = or-false (over text_limit (fill t.text id name)) ∙ sym (filling-over t.eq t.text id name h q)
     tests t false false q = refl
 
     by : (o : Option spec.Topic)
         → some_row is_long (filled_template n id name (bind o (λ t. if_template (topic_means t)))) ≡ is_over (topic_filling text_limit id name (bind o (λ t. if_template (topic_means t))))
-    by none = refl
-    by (some t) = tests (topic_means t) (over text_limit (topic_means t).text) (is_template (topic_means t).text) refl
+    by None = refl
+    by (Some t) = tests (topic_means t) (over text_limit (topic_means t).text) (is_template (topic_means t).text) refl
 
 -- a topic brings no filled template, or one whose text stands at the buffer's front
 pub data Brings (n : ℕ) (answer : FilledTopic) (after : List ℕ) : List Filled → Type 0 where
@@ -336,9 +338,9 @@ topic_brings n id name line p buffer {answer} {after} h size = by (bind (value_o
         rw (w, fillable_fits template id (ltb-false text_limit (length template) q) h) (written-take (fill template id name) buffer (omega arith))
 
     tests : (template : List ℕ) (eq long is-template : Bool) → over text_limit template ≡ long
-        → answer ≡ topic_filling (length buffer) id name (cond (not long && is-template) (some (record { eq = eq; text = template })) none)
-        → after ≡ topic_filled buffer id name (cond (not long && is-template) (some (record { eq = eq; text = template })) none) → is_over answer ≡ false
-        → Brings n answer after (filled_template n id name (cond (not long && is-template) (some (record { eq = eq; text = template })) none))
+        → answer ≡ topic_filling (length buffer) id name (cond (not long && is-template) (Some (record { eq = eq; text = template })) None)
+        → after ≡ topic_filled buffer id name (cond (not long && is-template) (Some (record { eq = eq; text = template })) None) → is_over answer ≡ false
+        → Brings n answer after (filled_template n id name (cond (not long && is-template) (Some (record { eq = eq; text = template })) None))
     tests template eq true is-template q a w o = brings_none a
     tests template eq false false q a w o = brings_none a
     tests template true false true q a w o =
@@ -353,27 +355,18 @@ topic_brings n id name line p buffer {answer} {after} h size = by (bind (value_o
     by : (o : Option spec.Topic) → answer ≡ topic_filling (length buffer) id name (bind o (λ t. if_template (topic_means t)))
         → after ≡ topic_filled buffer id name (bind o (λ t. if_template (topic_means t))) → is_over answer ≡ false
         → Brings n answer after (filled_template n id name (bind o (λ t. if_template (topic_means t))))
-    by none a w o = brings_none a
-    by (some t) a w o = tests (topic_means t).text (topic_means t).eq (over text_limit (topic_means t).text) (is_template (topic_means t).text) refl a w o
+    by None a w o = brings_none a
+    by (Some t) a w o = tests (topic_means t).text (topic_means t).eq (over text_limit (topic_means t).text) (is_template (topic_means t).text) refl a w o
 
 -- where no text of the topics from a place on is over 256, neither is the first of them, nor one of the others
-pub walk_short : (n : ℕ) (id : List ℕ) (name : Option (List ℕ)) (line : List ℕ) (most : ℕ) {place : Place} {p room : ℕ} {answer : FilledTopic}
-    → length id ≤ id_limit → room ≡ text_limit → 0 < most → place ≡ At p → answer ≡ topic_filling room id name (template_at line p)
+pub walk_short : (n : ℕ) (id : List ℕ) (name : Option (List ℕ)) (line : List ℕ) (most : ℕ) {place : Option ℕ} {p room : ℕ} {answer : FilledTopic}
+    → length id ≤ id_limit → room ≡ text_limit → 0 < most → place ≡ Some p → answer ≡ topic_filling room id name (template_at line p)
     → some_row is_long (filled_from most n id name line place) ≡ false
     → (is_over answer ≡ false) × (some_row is_long (filled_from (most - 1) n id name line (next_topic line p)) ≡ false)
 walk_short n id name line most {p = p} small whole k e told h =
     let one = ap (some_row is_long) (walk_topic n id name line most k e) ∙ some_append is_long _ _ in
     let both = or_split (some_row is_long (filled_template n id name (template_at line p))) _ (sym one ∙ h) in
     (sym (topic_over n id name line p small whole told) ∙ both.0, both.1)
-
--- where no text of the lines from a place on is over 256, none of the line is, nor one of the lines behind it
-pub on_short : (n : ℕ) (id : List ℕ) (name : Option (List ℕ)) (text : List ℕ) (at most : ℕ) → at < length text → length text ≤ most
-    → some_row is_long (filled_on n id name text at) ≡ false
-    → (some_row is_long (filled_from most n id name (line_at text at) (first_topic (line_at text at))) ≡ false)
-    × (some_row is_long (filled_on (suc n) id name text (next_line text at)) ≡ false)
-on_short n id name text at most h k e =
-    let parts = ap (some_row is_long) (on_line_lem n id name text at most h k) ∙ some_append is_long _ _ in
-    or_split (some_row is_long (filled_from most n id name (line_at text at) (first_topic (line_at text at)))) _ (sym parts ∙ e)
 
 module _ (text id : List ℕ) (name : Option (List ℕ)) where
   -- one of the lines from a place on has a text over 256 exactly if one of all has, whatever they are counted from
@@ -385,7 +378,7 @@ module _ (text id : List ℕ) (name : Option (List ℕ)) where
   long_in at n fs = some_row is_long fs || some_row is_long (filled_on (suc n) id name text (next_line text at))
 
   -- one of the line's topics from a place on, of `most` at the most, or of the lines behind it has one exactly if one of all has
-  abbrev pub OverIn : ℕ → ℕ → Place → Type 0
+  abbrev pub OverIn : ℕ → ℕ → Option ℕ → Type 0
   OverIn at most place = (n : ℕ) × (long_in at n (filled_from most n id name (line_at text at) place) ≡ over_filled text id name)
 
   pub over_start : OverOn 0
@@ -399,25 +392,25 @@ module _ (text id : List ℕ) (name : Option (List ℕ)) where
 
   module _ (at : ℕ) where
     -- a line, from its first topic on
-    pub over_line : {first : Place} → at < length text → first ≡ first_topic (line_at text at) → OverOn at → OverIn at (length text) first
+    pub over_line : {first : Option ℕ} → at < length text → first ≡ first_topic (line_at text at) → OverOn at → OverIn at (length text) first
     over_line h e w =
         let parts = ap (some_row is_long) (on_line_lem w.0 id name text at (length text) h (omega arith)) ∙ some_append is_long _ _ in
-        (w.0, ap (λ (p : Place). long_in at w.0 (filled_from (length text) w.0 id name (line_at text at) p)) e ∙ (sym parts ∙ w.1))
+        (w.0, ap (λ (p : Option ℕ). long_in at w.0 (filled_from (length text) w.0 id name (line_at text at) p)) e ∙ (sym parts ∙ w.1))
 
     -- no topic is left
-    pub over_nowhere : (most : ℕ) {place : Place} → place ≡ Nowhere → OverIn at most place → OverIn at 0 place
+    pub over_nowhere : (most : ℕ) {place : Option ℕ} → place ≡ None → OverIn at most place → OverIn at 0 place
     over_nowhere most {place} e w =
         let none_left = walk_out w.0 id name (line_at text at) 0 place (omega arith) ∙ sym (walk_end w.0 id name (line_at text at) most e) in
         (w.0, ap (long_in at w.0) none_left ∙ w.1)
 
-    pub over_next : (most : ℕ) (place : Place) {next : ℕ} → most ≤ 0 → next ≡ next_line text at → OverIn at most place → OverOn next
+    pub over_next : (most : ℕ) (place : Option ℕ) {next : ℕ} → most ≤ 0 → next ≡ next_line text at → OverIn at most place → OverOn next
     unfolding some_row
     over_next most place h e w =
         let passed = ap (long_in at w.0) (walk_out w.0 id name (line_at text at) most place h) in
         (suc w.0, ap (λ (next : ℕ). some_row is_long (filled_on (suc w.0) id name text next)) e ∙ (sym passed ∙ w.1))
 
     -- a topic whose filled text is over 256 or not
-    module _ (most : ℕ) {place : Place} {p : ℕ} {answer : FilledTopic} {room : ℕ} (small : length id ≤ id_limit) (whole : room ≡ text_limit) (k : 0 < most) (e : place ≡ At p)
+    module _ (most : ℕ) {place : Option ℕ} {p : ℕ} {answer : FilledTopic} {room : ℕ} (small : length id ≤ id_limit) (whole : room ≡ text_limit) (k : 0 < most) (e : place ≡ Some p)
         (told : answer ≡ topic_filling room id name (template_at (line_at text at) p)) (w : OverIn at most place) where
       pub over_topic : {b : Bool} → is_over answer ≡ b
           → (b || long_in at w.0 (filled_from (most - 1) w.0 id name (line_at text at) (next_topic (line_at text at) p))) ≡ over_filled text id name
@@ -431,6 +424,6 @@ module _ (text id : List ℕ) (name : Option (List ℕ)) where
       pub over_found : is_over answer ≡ true → true ≡ over_filled text id name
       over_found q = over_topic q
 
-      pub over_onward : {next : Place} → is_over answer ≡ false → next ≡ next_topic (line_at text at) p → OverIn at (most - 1) next
+      pub over_onward : {next : Option ℕ} → is_over answer ≡ false → next ≡ next_topic (line_at text at) p → OverIn at (most - 1) next
       over_onward q f =
-          (w.0, ap (λ (p : Place). long_in at w.0 (filled_from (most - 1) w.0 id name (line_at text at) p)) f ∙ over_topic q)
+          (w.0, ap (λ (p : Option ℕ). long_in at w.0 (filled_from (most - 1) w.0 id name (line_at text at) p)) f ∙ over_topic q)

@@ -1,6 +1,5 @@
 -- Events on a store: document 01, Events and Refusals by operation.
-use Rattle.std.specs.Prelude.{ℕ, Bool, true, false, ◌&&◌, ◌||◌, cond, List, [], ◌∷◌, ◌++◌, map, eqb, ltb, length}
-use Rattle.std.proofs.Math.Option.{Option, none, some}
+use Rattle.std.specs.Prelude.{ℕ, Bool, true, false, ◌&&◌, ◌||◌, cond, List, [], ◌∷◌, ◌++◌, map, eqb, ltb, length, Option, None, Some, Result, Ok, Err}
 use Rattle.text.specs.Text.{same}
 use Rattle.topic.specs.Topic.{valid_filter, tree_match}
 use Rattle.table.specs.Table.{some_row, keep, Change, adds, drops, nothing, change}
@@ -10,8 +9,7 @@ use Rattle.rule.specs.RuleText.{Filled, filled, of_kind}
 use Rattle.store.specs.Store.{session_limit, over, FilterRow, EqRow, NoteRow, View, same_filter, same_eq, same_note}
 use Rattle.store.specs.Layout.{layout}
 use Rattle.store.specs.View.{view}
-use Rattle.events.specs.declared.EventAnswer.{EventAnswer}
-use Rattle.events.specs.declared.EventAnswer.TheVariants.{Done, Refused}
+use Rattle.rule.specs.declared.Refusal.{Refusal}
 
 -- a session number and a client id, with the optional user name; "`ended` has the session alone"
 pub data Event : Type 0 where
@@ -20,8 +18,8 @@ pub data Event : Type 0 where
   ended : ℕ → Event
 
 unfoldable pub over_name : Option (List ℕ) → Bool
-over_name none = false
-over_name (some name) = over id_limit name
+over_name None = false
+over_name (Some name) = over id_limit name
 
 -- "1 client id or name over 64 bytes. 2 session over 255": what is seen of the arguments alone
 unfoldable pub argument_causes : Event → List (Bool × ℕ)
@@ -101,18 +99,18 @@ store_causes (ended session) v = []
 
 -- an event's first cause, on what the store means; "3 store not as laid out"
 unfoldable pub cause : Event → Option View → Option ℕ
-cause e none = first (argument_causes e ++ ((true, 3) ∷ []))
-cause e (some v) = first (argument_causes e ++ store_causes e v)
+cause e None = first (argument_causes e ++ ((true, 3) ∷ []))
+cause e (Some v) = first (argument_causes e ++ store_causes e v)
 
 -- is there a cause?
 abbrev pub given : Option ℕ → Bool
-given none = false
-given (some n) = true
+given None = false
+given (Some n) = true
 
 -- the store after an event: "all lent memory is unchanged" where it is refused
 unfoldable pub stored : Event → List ℕ → Option View → List ℕ
-stored e s none = s
-stored e s (some v) = cond (given (cause e (some v))) s (layout (effect e v))
+stored e s None = s
+stored e s (Some v) = cond (given (cause e (Some v))) s (layout (effect e v))
 
 unfoldable pub after : Event → List ℕ → List ℕ
 after e s = stored e s (view s)
@@ -121,6 +119,6 @@ unfoldable pub refused : Event → List ℕ → Bool
 refused e s = given (cause e (view s))
 
 -- each answer's number: none where the event is done
-unfoldable pub says : EventAnswer → Option ℕ
-says Done = none
-says (Refused reason) = some (number reason)
+unfoldable pub says : Result (Unit {0}) Refusal → Option ℕ
+says (Ok tt) = None
+says (Err reason) = Some (number reason)

@@ -1,4 +1,4 @@
 pub mod Event
 pub mod Templates
 pub mod Pushes
-pub mod Marks
+pub mod Leaving

@@ -1,28 +1,33 @@
 // Connected: the filled templates become rows of the three tables.
-ghost use Rattle.std.specs.Prelude.{◌≡◌, false, ◌++◌, ◌-◌, ◌≤◌, length, take, drop};
-ghost use Rattle.std.proofs.Math.Option.{none, some};
+ghost use Rattle.std.specs.Option.{option_copied};
+ghost use Rattle.std.specs.Prelude.{◌≡◌, ◌≤◌, ◌+◌, ◌-◌, false, length, take, drop, None, Some};
 ghost use Rattle.json_text.specs.Lines.{lines};
 ghost use Rattle.rule.specs.Limits.{id_limit, lines_limit};
 ghost use Rattle.rule.specs.Refusals.{first};
-ghost use Rattle.rule.specs.Places.{given};
 ghost use Rattle.store.specs.View.{view};
 ghost use Rattle.store.specs.Store.{View};
 ghost use Rattle.store.specs.Check.{shape_of};
-ghost use Rattle.store.specs.declared.ShapeRead.«TheVariants».{LaidOut};
 ghost use Rattle.events.specs.Event as event;
 ghost use Rattle.events.specs.Templates as templates;
 ghost use Rattle.events.specs.Pushes as spec;
 
 use crate::templates::{fill_topic, first_topic, next_topic};
-use crate::{EventAnswer, FilledTopic, PushedAll, Table};
-use json_text::Place;
+use crate::{FilledTopic, Table};
 use json_text::splitting::next_line;
-use rule::{Given, ID, Refusal, TEXT};
+use rule::{ID, Refusal, TEXT};
 use store::rows::{put_filter, put_numbered};
-use store::{Counts, SESSIONS, Shape, ShapeRead, check};
+use store::{Counts, SESSIONS, Shape, check};
 use table::{Pushed, push, put_number, restore};
 use text::front;
 use topic::valid_filter;
+
+// Who connects: the session, the client id and the user name, if one is given.
+#[derive(Clone, Copy)]
+struct Connecting<'a> {
+    session: u16,
+    id: &'a [u8],
+    name: Option<&'a [u8]>,
+}
 
 // Pushes a filled filter, if it is valid, as a filter row owned by the client.
 fn push_filter(part: &mut [u8], used: usize, rule: u16, text: &[u8], id: &[u8]) -> Pushed
@@ -48,132 +53,115 @@ fn push_numbered(part: &mut [u8], used: usize, n: u16, text: &[u8]) -> Pushed
 }
 
 // Pushes the row that a filled topic is in this table; where it is none there, nothing is to be added.
+#[tactic(auto, unfolding(crate::specs::Pushes::topic_bytes, crate::specs::Pushes::filter_in, crate::specs::Pushes::eq_in, crate::specs::Pushes::pushes, crate::specs::Pushes::pushes_answer))]
 fn push_topic(
     part: &mut [u8],
     used: usize,
     table: Table,
     rule: u16,
-    session: u16,
+    who: Connecting,
     topic: FilledTopic,
     text: &[u8],
-    id: &[u8],
 ) -> Pushed
-    ensures value { result ≡ spec.pushes_answer (spec.topic_bytes table rule session id.now topic text.now) used part.old }
-    ensures part_after { part.new ≡ spec.pushes (spec.topic_bytes table rule session id.now topic text.now) used part.old }
+    ensures value { result ≡ spec.pushes_answer (spec.topic_bytes table rule who.entry.session who.entry.id.now topic text.now) used part.old }
+    ensures part_after { part.new ≡ spec.pushes (spec.topic_bytes table rule who.entry.session who.entry.id.now topic text.now) used part.old }
 {
-    match topic {
-        FilledTopic::Filter(n) => match table {
-            Table::Filters => push_filter(part, used, rule, front(text, n), id),
-            Table::Eqs => Pushed::Present,
-            Table::Notes => push_numbered(part, used, session, front(text, n)),
-        },
-        FilledTopic::Eq(n) => match table {
-            Table::Filters => Pushed::Present,
-            Table::Eqs => push_numbered(part, used, rule, front(text, n)),
-            Table::Notes => Pushed::Present,
-        },
+    match (table, topic) {
+        (Table::Filters, FilledTopic::Filter(n)) => {
+            push_filter(part, used, rule, front(text, n), who.id)
+        }
+        (Table::Notes, FilledTopic::Filter(n)) => {
+            push_numbered(part, used, who.session, front(text, n))
+        }
+        (Table::Eqs, FilledTopic::Eq(n)) => push_numbered(part, used, rule, front(text, n)),
         _ => Pushed::Present,
     }
 }
 
-// Pushes the rows that the event has for one table, whose stretch of the store is `from` to `to`.
-fn push_all(
-    store: &mut [u8],
-    text_end: usize,
-    from: usize,
-    to: usize,
+// Pushes the rows that the event has for one table, whose used rows are `earlier`.
+fn push_rows(
+    part: &mut [u8],
+    rules: &[u8],
     table: Table,
     earlier: usize,
-    session: u16,
-    id: &[u8],
-    name: Given,
-    names: &[u8],
-) -> PushedAll
-    requires id_len_bound { length id.now ≤ id_limit }
-    requires le_text_end { (16 ≤ text_end) × (text_end ≤ from) × (from ≤ to) × (to ≤ length store.old) }
-    requires store_len_bound { length (lines (drop 16 (take text_end store.old))) ≤ lines_limit }
-    requires names_value { templates.over_filled (drop 16 (take text_end store.old)) id.now (given name names.now) ≡ false }
-    ensures value { result ≡ spec.all_answer (spec.new_bytes table session (drop 16 (take text_end store.old)) id.now (given name names.now)) earlier (take (to - from) (drop from store.old)) }
-    ensures store_after { store.new ≡ take from store.old ++ (spec.all_pushed (spec.new_bytes table session (drop 16 (take text_end store.old)) id.now (given name names.now)) earlier (take (to - from) (drop from store.old)) ++ drop to store.old) }
+    who: Connecting,
+) -> Option<usize>
+    requires id_len_bound { length who.id.now ≤ id_limit }
+    requires few_lines { length (lines rules.now) ≤ lines_limit }
+    requires none_over { templates.over_filled rules.now who.id.now (option_copied who.name) ≡ false }
+    ensures value { result ≡ spec.all_answer (spec.new_bytes table who.entry.session rules.now who.entry.id.now (option_copied who.entry.name)) earlier part.old }
+    ensures part_after { part.new ≡ spec.all_pushed (spec.new_bytes table who.entry.session rules.now who.entry.id.now (option_copied who.entry.name)) earlier part.old }
 {
     let mut used = earlier;
     let mut rule = 0;
     let mut at = 0;
-    while at < text_end - Counts::HEADER {
-        let mut next = first_topic(&store[Counts::HEADER..text_end], at);
-        // How many topics may still come: each takes a byte of the text at least, so none is lost when this runs out.
-        let mut turns = text_end;
-        while turns > 0 {
-            match next {
-                Place::Nowhere => {
-                    turns = 0;
+    while at < rules.len() {
+        let mut next = first_topic(rules, at);
+        // Each topic takes a byte of the text at least, so there are no more than bytes.
+        for _ in 0..rules.len() {
+            let Some(p) = next else {
+                break;
+            };
+            let mut text = [0u8; TEXT];
+            let topic = fill_topic(rules, at, p, who.id, who.name, &mut text);
+            next = next_topic(rules, at, p);
+            match push_topic(part, used, table, rule, who, topic, &text) {
+                Pushed::Present => {}
+                Pushed::Added => {
+                    used += 1;
                 }
-                Place::At(p) => {
-                    let mut text = [0u8; TEXT];
-                    let topic = fill_topic(
-                        &store[Counts::HEADER..text_end],
-                        at,
-                        p,
-                        id,
-                        name,
-                        names,
-                        &mut text,
-                    );
-                    next = next_topic(&store[Counts::HEADER..text_end], at, p);
-                    turns -= 1;
-                    match push_topic(
-                        &mut store[from..to],
-                        used,
-                        table,
-                        rule,
-                        session,
-                        topic,
-                        &text,
-                        id,
-                    ) {
-                        Pushed::Present => {}
-                        Pushed::Added => {
-                            used += 1;
-                        }
-                        Pushed::Full => {
-                            return PushedAll::Full;
-                        }
-                    }
+                Pushed::Full => {
+                    return None;
                 }
             }
         }
-        at = next_line(&store[Counts::HEADER..text_end], at);
+        at = next_line(rules, at);
         rule += 1;
     }
-    PushedAll::Used(used)
+    Some(used)
 }
 
-// "7 a text over 256 after both replacements": is there one?
-fn over_filled(rules: &[u8], id: &[u8], name: Given, names: &[u8]) -> bool
-    requires { length id.now ≤ id_limit }
-    ensures { result ≡ templates.over_filled rules.now id.now (given name names.now) }
+// The same for a table of the store, which is written through its own stretch; the rule text stands before the tables.
+fn push_all(store: &mut [u8], shape: Shape, table: Table, who: Connecting) -> Option<usize>
+    requires id_len_bound { length who.id.now ≤ id_limit }
+    requires in_order { (16 + shape.text ≤ spec.table_at table shape.counts) × (spec.table_at table shape.counts ≤ spec.table_end table shape.counts) × (spec.table_end table shape.counts ≤ length store.old) }
+    requires few_lines { length (lines (drop 16 (take (16 + shape.text) store.old))) ≤ lines_limit }
+    requires none_over { templates.over_filled (drop 16 (take (16 + shape.text) store.old)) who.id.now (option_copied who.name) ≡ false }
+    ensures value { result ≡ spec.all_answer (spec.new_bytes table who.entry.session (drop 16 (take (16 + shape.text) store.old)) who.entry.id.now (option_copied who.entry.name)) (spec.table_used table shape) (take (spec.table_end table shape.counts - spec.table_at table shape.counts) (drop (spec.table_at table shape.counts) store.old)) }
+    ensures store_after { store.new ≡ spec.replaced (spec.table_at table shape.counts) (spec.table_end table shape.counts) (spec.all_pushed (spec.new_bytes table who.entry.session (drop 16 (take (16 + shape.text) store.old)) who.entry.id.now (option_copied who.entry.name)) (spec.table_used table shape)) store.old }
+{
+    let (from, to) = table.stretch(shape.counts);
+    let text_end = Counts::HEADER + shape.text;
+    let (front, tables) = store.split_at_mut(from);
+    let rules = &front[Counts::HEADER..text_end];
+    push_rows(
+        &mut tables[..to - from],
+        rules,
+        table,
+        table.used(shape),
+        who,
+    )
+}
+
+// "7 a text over 256 after both replacements": is there one? The walk is that of `push_rows`. One walk for both would take what to do with
+// a text as a closure, and its contract with the state between two calls is longer than these loops.
+fn over_filled(rules: &[u8], who: Connecting) -> bool
+    requires { length who.id.now ≤ id_limit }
+    ensures { result ≡ templates.over_filled rules.now who.entry.id.now (option_copied who.entry.name) }
 {
     let mut at = 0;
     while at < rules.len() {
         let mut next = first_topic(rules, at);
-        // How many topics may still come, as in `push_all`.
-        let mut turns = rules.len();
-        while turns > 0 {
-            match next {
-                Place::Nowhere => {
-                    turns = 0;
-                }
-                Place::At(p) => {
-                    let mut text = [0u8; TEXT];
-                    if let FilledTopic::TooLong = fill_topic(
-                        rules, at, p, id, name, names, &mut text,
-                    ) {
-                        return true;
-                    }
-                    next = next_topic(rules, at, p);
-                    turns -= 1;
-                }
+        // As many topics as may come, as in `push_rows`.
+        for _ in 0..rules.len() {
+            let Some(p) = next else {
+                break;
+            };
+            let mut text = [0u8; TEXT];
+            if let FilledTopic::TooLong = fill_topic(rules, at, p, who.id, who.name, &mut text) {
+                return true;
             }
+            next = next_topic(rules, at, p);
         }
         at = next_line(rules, at);
     }
@@ -181,6 +169,7 @@ fn over_filled(rules: &[u8], id: &[u8], name: Given, names: &[u8]) -> bool
 }
 
 // Puts back the three tables to the rows used earlier: these many filter, eq and note rows are used now.
+#[tactic(auto, unfolding(store::specs::Store::store_length, store::specs::Layout::filters_at, store::specs::Layout::eqs_at, store::specs::Layout::notes_at))]
 fn put_back(store: &mut [u8], shape: Shape, filters: usize, eqs: usize, notes: usize)
     ensures { store.new ≡ spec.put_back shape filters eqs notes store.old }
 {
@@ -203,38 +192,15 @@ fn put_back(store: &mut [u8], shape: Shape, filters: usize, eqs: usize, notes: u
 }
 
 // Adds the event's rows to the three tables. Where one is full, all are put back: 8, 9, 10 in this order.
-fn fill_tables(
-    store: &mut [u8],
-    shape: Shape,
-    session: u16,
-    id: &[u8],
-    name: Given,
-    names: &[u8],
-) -> EventAnswer
-    requires store_value { shape_of (view store.old) ≡ LaidOut shape }
-    requires names_value { first (event.argument_causes (event.connected session id.now (given name names.now))) ≡ none }
-    requires names_value_2 { (v : View) → view store.old ≡ some v → templates.over_filled v.text id.now (given name names.now) ≡ false }
-    ensures result_value { event.says result ≡ event.cause (event.connected session id.now (given name names.now)) (view store.old) }
-    ensures store_after { store.new ≡ event.after (event.connected session id.now (given name names.now)) store.old }
+fn fill_tables(store: &mut [u8], shape: Shape, who: Connecting) -> Result<(), Refusal>
+    requires store_value { shape_of (view store.old) ≡ Some shape }
+    requires names_value { first (event.argument_causes (event.connected who.session who.id.now (option_copied who.name))) ≡ None }
+    requires names_value_2 { (v : View) → view store.old ≡ Some v → templates.over_filled v.text who.id.now (option_copied who.name) ≡ false }
+    ensures result_value { event.says result ≡ event.cause (event.connected who.entry.session who.entry.id.now (option_copied who.entry.name)) (view store.old) }
+    ensures store_after { store.new ≡ event.after (event.connected who.entry.session who.entry.id.now (option_copied who.entry.name)) store.old }
 {
     let counts = shape.counts;
-    let text_end = Counts::HEADER + shape.text;
-    let filters_at = counts.filters_at();
-    let eqs_at = counts.eqs_at();
-    let notes_at = counts.notes_at();
-    let end = counts.length();
-    let PushedAll::Used(filters) = push_all(
-        store,
-        text_end,
-        filters_at,
-        eqs_at,
-        Table::Filters,
-        shape.filters,
-        session,
-        id,
-        name,
-        names,
-    ) else {
+    let Some(filters) = push_all(store, shape, Table::Filters, who) else {
         put_back(
             store,
             shape,
@@ -242,57 +208,28 @@ fn fill_tables(
             shape.eqs,
             shape.notes,
         );
-        return EventAnswer::Refused(Refusal::FiltersFull);
+        return Err(Refusal::FiltersFull);
     };
-    let PushedAll::Used(eqs) = push_all(
-        store,
-        text_end,
-        eqs_at,
-        notes_at,
-        Table::Eqs,
-        shape.eqs,
-        session,
-        id,
-        name,
-        names,
-    ) else {
+    let Some(eqs) = push_all(store, shape, Table::Eqs, who) else {
         put_back(store, shape, filters, counts.eqs as usize, shape.notes);
-        return EventAnswer::Refused(Refusal::EqsFull);
+        return Err(Refusal::EqsFull);
     };
-    let PushedAll::Used(notes) = push_all(
-        store,
-        text_end,
-        notes_at,
-        end,
-        Table::Notes,
-        shape.notes,
-        session,
-        id,
-        name,
-        names,
-    ) else {
+    let Some(notes) = push_all(store, shape, Table::Notes, who) else {
         put_back(store, shape, filters, eqs, counts.notes as usize);
-        return EventAnswer::Refused(Refusal::NotesFull);
+        return Err(Refusal::NotesFull);
     };
     put_number(store, 10, filters as u16);
     put_number(store, 12, eqs as u16);
     put_number(store, 14, notes as u16);
-    EventAnswer::Done
+    Ok(())
 }
 
 // "1 .. name over 64 bytes."
-fn name_over(name: Given, names: &[u8]) -> bool
-    ensures { result ≡ event.over_name (given name names.now) }
+#[tactic(auto, unfolding(crate::specs::Event::over_name))]
+fn name_over(name: Option<&[u8]>) -> bool
+    ensures { result ≡ event.over_name (option_copied name.entry) }
 {
-    match name {
-        Given::Absent => false,
-        Given::Length(n) => {
-            if ID < n {
-                return ID < names.len();
-            }
-            false
-        }
-    }
+    name.is_some_and(|name| ID < name.len())
 }
 
 // A client has connected: its rows are added.
@@ -300,27 +237,23 @@ pub fn connected(
     store: &mut [u8],
     session: u64,
     id: &[u8],
-    name: Given,
-    names: &[u8],
-) -> EventAnswer
-    ensures result_value { event.says result ≡ event.cause (event.connected session id.now (given name names.now)) (view store.old) }
-    ensures store_after { store.new ≡ event.after (event.connected session id.now (given name names.now)) store.old }
+    name: Option<&[u8]>,
+) -> Result<(), Refusal>
+    ensures result_value { event.says result ≡ event.cause (event.connected session id.now (option_copied name.entry)) (view store.old) }
+    ensures store_after { store.new ≡ event.after (event.connected session id.now (option_copied name.entry)) store.old }
 {
-    if ID < id.len() {
-        return EventAnswer::Refused(Refusal::TooLong);
-    }
-    if name_over(name, names) {
-        return EventAnswer::Refused(Refusal::TooLong);
+    if ID < id.len() || name_over(name) {
+        return Err(Refusal::TooLong);
     }
     if SESSIONS <= session as usize {
-        return EventAnswer::Refused(Refusal::OutOfRange);
+        return Err(Refusal::OutOfRange);
     }
-    let ShapeRead::LaidOut(shape) = check::shape(store) else {
-        return EventAnswer::Refused(Refusal::Malformed);
-    };
+    let shape = check::shape(store).ok_or(Refusal::Malformed)?;
     let text_end = Counts::HEADER + shape.text;
-    if over_filled(&store[Counts::HEADER..text_end], id, name, names) {
-        return EventAnswer::Refused(Refusal::FilledTooLong);
+    let session = session as u16;
+    let who = Connecting { session, id, name };
+    if over_filled(&store[Counts::HEADER..text_end], who) {
+        return Err(Refusal::FilledTooLong);
     }
-    fill_tables(store, shape, session as u16, id, name, names)
+    fill_tables(store, shape, who)
 }

@@ -6,17 +6,13 @@ pub mod connecting;
 pub mod leaving;
 pub mod templates;
 
-use rule::Refusal;
+ghost use Rattle.std.specs.Prelude.{◌≡◌};
 
-// What an event answers: done, or refused by number with the store unchanged.
-#[derive(Clone, Copy)]
-pub enum EventAnswer {
-    Done,
-    Refused(Refusal),
-}
+use store::{Counts, Shape};
 
-// A topic of a rule, filled for a client: no template; a text over 256; a filter or an eq with the length of its text.
-#[derive(Clone, Copy)]
+// A topic of a rule, filled for a client: no template; a text over 256; a filter or an eq with the length of its text. An enum of its own,
+// since a result of an option of a kind and a length says the same in more words.
+#[derive(Clone, Copy, Debug, PartialEq, Eq)]
 pub enum FilledTopic {
     Static,
     TooLong,
@@ -25,16 +21,38 @@ pub enum FilledTopic {
 }
 
 // The three tables.
-#[derive(Clone, Copy)]
+#[derive(Clone, Copy, Debug, PartialEq, Eq)]
 pub enum Table {
     Filters,
     Eqs,
     Notes,
 }
 
-// What pushing all rows of an event answers: the rows used then, or that one found no room.
-#[derive(Clone, Copy)]
-pub enum PushedAll {
-    Used(usize),
-    Full,
+impl Table {
+    ghost use Rattle.events.specs.Pushes as spec;
+
+    // Where its stretch of a store begins, and where it ends.
+    #[tactic(auto, unfolding(crate::specs::Pushes::table_at, crate::specs::Pushes::table_end))]
+    fn stretch(self, counts: Counts) -> (usize, usize)
+        ensures from { result.0 ≡ spec.table_at self counts }
+        ensures to { result.1 ≡ spec.table_end self counts }
+    {
+        match self {
+            Table::Filters => (counts.filters_at(), counts.eqs_at()),
+            Table::Eqs => (counts.eqs_at(), counts.notes_at()),
+            Table::Notes => (counts.notes_at(), counts.length()),
+        }
+    }
+
+    // How many of its rows are used.
+    #[tactic(auto, unfolding(crate::specs::Pushes::table_used))]
+    fn used(self, shape: Shape) -> usize
+        ensures { result ≡ spec.table_used self shape }
+    {
+        match self {
+            Table::Filters => shape.filters,
+            Table::Eqs => shape.eqs,
+            Table::Notes => shape.notes,
+        }
+    }
 }

@@ -1,31 +1,29 @@
 -- Laws of what a host asks, and the claims of specs/Claims.antt. Assumes nothing.
 use Prim.Native.Nat.{ℕ, zero, suc, ◌+◌, ◌-◌, ◌≤◌, ◌<◌}
-use native.Mathlib.Numerals.{add-one}
 use native.Mathlib.Omega.{arith}
 use mathlib.Core.Path.{◌≡◌, refl, sym, ap, ◌∙◌}
 use mathlib.Core.Bool.{Bool, true, false, ◌&&◌, ◌||◌, not, cond, beq, true≢false, and-false, or-true}
 use mathlib.Core.List.{List, [], ◌∷◌, ◌++◌, map, Memᴰ}
-use mathlib.Core.Option.{Option, none, some, bind}
+use Rattle.std.specs.Prelude.{Option, None, Some}
+use Rattle.std.specs.List.{list_all, starts_with}
+use Rattle.text.specs.Maybe.{bind}
 use borrow.Author.Tests.{eq-eqb, ne_eqb, eqb-true, ltb-false}
 use lib.Dec.{eqb, ltb}
-use lib.ListN.{length, take, drop, get_or, length-append, length-map, drop_of_length-le}
-use lib.Seq.{drop-cons}
+use lib.ListN.{length, take, drop, length-append, length-map}
 use Rattle.text.specs.Ascii.{ascii}
-use Rattle.text.specs.Text.{same, begins, occurs, replace_from, replace}
+use Rattle.text.specs.Text.{same, occurs, replace_from, replace}
 use Rattle.text.proofs.Laws.{and_split, or_split, isnt, same_itself, begins-take}
 use Rattle.topic.specs.Topic.{Level, plus, hash, levels, is_only, is_plus, is_hash, metadata, ends, takes_level, takes, dollar_rule, levels_match, levels_if, checked_levels, tree_match, valid_filter}
 use Rattle.table.specs.Table.{some_row, keep, add, add_all, change}
 use Rattle.table.proofs.TableLaws.{some_keep, some_map, some_on, present, none as none_rows, none_at, none_of, member, length-keep, some_add_all}
 use Rattle.json_text.specs.Lines.{lines, line_at, next_line}
-use Rattle.json_text.specs.declared.Place.{Place}
-use Rattle.json_text.specs.declared.Place.TheVariants.{At, Nowhere}
 use Rattle.json_text.proofs.LineLaws.{lines_here, lines_past, line_within, next_by}
 use Rattle.rule.specs.Limits.{text_limit}
 use Rattle.rule.specs.Rule as spec
 use Rattle.rule.specs.Rule.{Meaning, TopicOf, is_template, topic_means, topic_of}
 use Rattle.rule.specs.Places.{value_of, topic_answer, placed_topic}
 use Rattle.rule.specs.declared.Topic.{Topic}
-use Rattle.rule.specs.declared.Topic.TheVariants.{Filter, Template, Eq, EqTemplate, Bad}
+use Rattle.rule.specs.declared.Topic.TheVariants.{Filter, Template, Eq, EqTemplate}
 use Rattle.rule.specs.Fill.{or_nothing, fill}
 use Rattle.rule.specs.RuleText.{Filled, read_rule, rule_on, rules_of, listed, filled_topics, filled_rules, filled, of_kind}
 use Rattle.store.specs.Store.{over, View, FilterRow, EqRow, NoteRow, same_filter, same_eq, same_note}
@@ -39,34 +37,23 @@ use Rattle.events.proofs.TemplateWalk.{walk_line, walk_topic, walk_end, walk_out
 use Rattle.hosting.specs.Walk.{count_of}
 use Rattle.store.specs.Check.{shape_of}
 use Rattle.store.specs.declared.Shape.{Shape}
-use Rattle.store.specs.declared.ShapeRead.{ShapeRead}
-use Rattle.store.specs.declared.ShapeRead.TheVariants.{LaidOut, Malformed as MalformedShape}
-use Rattle.hosting.specs.declared.Used.TheVariants.{Rows, Malformed}
 use Rattle.hosting.specs.Hosting.{is_special, no_special, templates_in, templates_of, line_templates, templates, used_in}
 use Rattle.hosting.specs.Claims.{PlainFills, FilledOnce, Enough, TakesBack, depart, enter, leave, Entered, EntersAlike, LeavesAlike}
+use Rattle.hosting.specs.declared.Used.{Used}
 
 -- ---- plain names
 
--- the byte at a place, and those behind it
-special_here : (name : List ℕ) (i : ℕ) → i < length name → no_special (drop i name) ≡ (not (is_special (get_or name i 0)) && no_special (drop (i + 1) name))
+-- all bytes pass, if none is special
+pub special_all : (name : List ℕ) → list_all (λ b. not (is_special b)) name ≡ no_special name
 unfolding no_special
-special_here name i h = rw (add-one, drop-cons name i 0)
-
-pub special_found : (name : List ℕ) (i : ℕ) → i < length name → is_special (get_or name i 0) ≡ true → no_special (drop i name) ≡ false
-special_found name i h e = special_here name i h ∙ ap (λ (b : Bool). not b && no_special (drop (i + 1) name)) e
-
-pub special_passed : (name : List ℕ) (i : ℕ) → i < length name → is_special (get_or name i 0) ≡ false → no_special (drop i name) ≡ no_special (drop (i + 1) name)
-special_passed name i h e = special_here name i h ∙ ap (λ (b : Bool). not b && no_special (drop (i + 1) name)) e
-
-pub special_end : (name : List ℕ) (i : ℕ) → length name ≤ i → no_special (drop i name) ≡ true
-unfolding no_special
-special_end name i h = rw (drop_of_length-le name h)
+special_all [] = refl
+special_all (b ∷ name) = ap (λ (rest : Bool). not (is_special b) && rest) (special_all name)
 
 -- a text that begins with `$`
-pub begins_dollar : (name : List ℕ) → begins (ascii "$") name ≡ metadata name
-unfolding begins metadata
-begins_dollar [] = refl
-begins_dollar (b ∷ name) = at (eqb 36 b) refl
+pub starts_dollar : (name : List ℕ) → starts_with eqb name (ascii "$") ≡ metadata name
+unfolding metadata
+starts_dollar [] = refl
+starts_dollar (b ∷ name) = at (eqb 36 b) refl
   where
     at : (e : Bool) → eqb 36 b ≡ e → (e && true) ≡ eqb b 36
     at true q = sym (eq-eqb b 36 (sym (eqb-true 36 b q)))
@@ -217,14 +204,14 @@ unfolding filled
 filled_once eq text id name = rules_once eq 0 id name (rules_of text)
 
 -- what `topic_at` answers tells whether the topic is a template of a kind
-pub count_here : (eq : Bool) (n : ℕ) (id : List ℕ) (name : Option (List ℕ)) (line : List ℕ) (p : ℕ) {answer : Topic} → answer ≡ topic_answer (bind (value_of line p) topic_of)
+pub count_here : (eq : Bool) (n : ℕ) (id : List ℕ) (name : Option (List ℕ)) (line : List ℕ) (p : ℕ) {answer : Option Topic} → answer ≡ topic_answer (bind (value_of line p) topic_of)
     → length (of_kind eq (filled_template n id name (template_at line p))) ≡ count_of eq answer
 unfolding template_at if_template topic_means topic_answer placed_topic filled_template of_kind count_of bind
 count_here eq n id name line p e = by (bind (value_of line p) topic_of) ∙ ap (count_of eq) (sym e)
   where
     tests : (t : spec.Topic) (long template is eq : Bool)
-        → length (of_kind eq (filled_template n id name (cond (not long && template) (some (record { eq = is; text = t.text.text })) none)))
-        ≡ count_of eq (cond long Bad (cond is (cond template (EqTemplate t.text.at) (Eq t.text.at)) (cond template (Template t.text.at) (Filter t.text.at))))
+        → length (of_kind eq (filled_template n id name (cond (not long && template) (Some (record { eq = is; text = t.text.text })) None)))
+        ≡ count_of eq (cond long None (cond is (cond template (Some (EqTemplate t.text.at)) (Some (Eq t.text.at))) (cond template (Some (Template t.text.at)) (Some (Filter t.text.at)))))
     tests t true template is eq = refl
     tests t false true true true = refl
     tests t false true true false = refl
@@ -234,58 +221,49 @@ count_here eq n id name line p e = by (bind (value_of line p) topic_of) ∙ ap (
     tests t false false false eq = refl
 
     by : (o : Option spec.Topic) → length (of_kind eq (filled_template n id name (bind o (λ t. if_template (topic_means t))))) ≡ count_of eq (topic_answer o)
-    by none = refl
-    by (some t) = tests t (over text_limit t.text.text) (is_template t.text.text) t.eq eq
+    by None = refl
+    by (Some t) = tests t (over text_limit t.text.text) (is_template t.text.text) t.eq eq
 
 -- the loop over a line's topics: what is counted and what is left is all, of this kind
-abbrev pub Left : Bool → List ℕ → ℕ → ℕ → Place → Type 0
-Left eq line n turns next = n + length (of_kind eq (filled_from turns 0 [] none line next)) ≡ templates_in eq (listed (rule_on (read_rule line)))
+abbrev pub Left : Bool → List ℕ → ℕ → ℕ → Option ℕ → Type 0
+Left eq line n turns next = n + length (of_kind eq (filled_from turns 0 [] None line next)) ≡ templates_in eq (listed (rule_on (read_rule line)))
 
-pub left_start : (eq : Bool) (line : List ℕ) {first : Place} → first ≡ first_topic line → Left eq line 0 (length line) first
+pub left_start : (eq : Bool) (line : List ℕ) {first : Option ℕ} → first ≡ first_topic line → Left eq line 0 (length line) first
 left_start eq line e =
     let all =
-    ap (λ (p : Place). length (of_kind eq (filled_from (length line) 0 [] none line p))) e
-    ∙ (ap (λ (fs : List Filled). length (of_kind eq fs)) (walk_line 0 [] none line (length line) (omega arith)) ∙ topics_once eq 0 [] none (listed (rule_on (read_rule line)))) in
+    ap (λ (p : Option ℕ). length (of_kind eq (filled_from (length line) 0 [] None line p))) e
+    ∙ (ap (λ (fs : List Filled). length (of_kind eq fs)) (walk_line 0 [] None line (length line) (omega arith)) ∙ topics_once eq 0 [] None (listed (rule_on (read_rule line)))) in
     omega arith
 
-pub left_step : (eq : Bool) (line : List ℕ) (n turns : ℕ) {place next : Place} {p : ℕ} {answer : Topic} → 0 < turns → place ≡ At p
+pub left_step : (eq : Bool) (line : List ℕ) (n turns : ℕ) {place next : Option ℕ} {p : ℕ} {answer : Option Topic} → 0 < turns → place ≡ Some p
     → answer ≡ topic_answer (bind (value_of line p) topic_of) → next ≡ next_topic line p → Left eq line n turns place → Left eq line (n + count_of eq answer) (turns - 1) next
 left_step eq line n turns {next = next} {p = p} {answer} h at is onward left =
-    let step = ap (λ (fs : List Filled). length (of_kind eq fs)) (walk_topic 0 [] none line turns h at) ∙ kind_append eq (filled_template 0 [] none (template_at line p)) _ in
-    let here = count_here eq 0 [] none line p is in
-    let rest = ap (λ (q : Place). length (of_kind eq (filled_from (turns - 1) 0 [] none line q))) onward in
+    let step = ap (λ (fs : List Filled). length (of_kind eq fs)) (walk_topic 0 [] None line turns h at) ∙ kind_append eq (filled_template 0 [] None (template_at line p)) _ in
+    let here = count_here eq 0 [] None line p is in
+    let rest = ap (λ (q : Option ℕ). length (of_kind eq (filled_from (turns - 1) 0 [] None line q))) onward in
     omega arith
 
-pub left_none : (eq : Bool) (line : List ℕ) (n turns : ℕ) {place : Place} → place ≡ Nowhere → Left eq line n turns place → n ≡ templates_in eq (listed (rule_on (read_rule line)))
+pub left_none : (eq : Bool) (line : List ℕ) (n turns : ℕ) {place : Option ℕ} → place ≡ None → Left eq line n turns place → n ≡ templates_in eq (listed (rule_on (read_rule line)))
 left_none eq line n turns e left =
-    let end = ap (λ (fs : List Filled). length (of_kind eq fs)) (walk_end 0 [] none line turns e) in
+    let end = ap (λ (fs : List Filled). length (of_kind eq fs)) (walk_end 0 [] None line turns e) in
     let nothing : length (of_kind eq []) ≡ 0 = unfold of_kind in refl in
     omega arith
 
-pub left_out : (eq : Bool) (line : List ℕ) (n turns : ℕ) (place : Place) → turns ≤ 0 → Left eq line n turns place → n ≡ templates_in eq (listed (rule_on (read_rule line)))
+pub left_out : (eq : Bool) (line : List ℕ) (n turns : ℕ) (place : Option ℕ) → turns ≤ 0 → Left eq line n turns place → n ≡ templates_in eq (listed (rule_on (read_rule line)))
 left_out eq line n turns place h left =
-    let end = ap (λ (fs : List Filled). length (of_kind eq fs)) (walk_out 0 [] none line turns place h) in
+    let end = ap (λ (fs : List Filled). length (of_kind eq fs)) (walk_out 0 [] None line turns place h) in
     let nothing : length (of_kind eq []) ≡ 0 = unfold of_kind in refl in
     omega arith
 
-pub count_small : (eq : Bool) (t : Topic) → count_of eq t ≤ 1
+pub count_small : (eq : Bool) (t : Option Topic) → count_of eq t ≤ 1
 unfolding count_of
-count_small eq (Filter p) = omega arith
-count_small true (Template p) = omega arith
-count_small false (Template p) = omega arith
-count_small eq (Eq p) = omega arith
-count_small true (EqTemplate p) = omega arith
-count_small false (EqTemplate p) = omega arith
-count_small eq Bad = omega arith
-
--- a topic of another kind
-pub count_other : (eq : Bool) (t : Topic) → ((p : ℕ) → t ≡ Template p → ⊥) → ((p : ℕ) → t ≡ EqTemplate p → ⊥) → 0 ≡ count_of eq t
-unfolding count_of
-count_other eq (Filter p) m q = refl
-count_other eq (Template p) m q = absurd (m p refl)
-count_other eq (Eq p) m q = refl
-count_other eq (EqTemplate p) m q = absurd (q p refl)
-count_other eq Bad m q = refl
+count_small eq (Some (Filter p)) = omega arith
+count_small true (Some (Template p)) = omega arith
+count_small false (Some (Template p)) = omega arith
+count_small eq (Some (Eq p)) = omega arith
+count_small true (Some (EqTemplate p)) = omega arith
+count_small false (Some (EqTemplate p)) = omega arith
+count_small eq None = omega arith
 
 -- the loop over the lines
 abbrev pub OnLines : Bool → List ℕ → ℕ → ℕ → Type 0
@@ -320,31 +298,32 @@ both_here line e f = λ i. record { filters = e i; eqs = f i }
 
 -- ---- the used rows
 
-pub rows_told : (o : Option View) {answer : ShapeRead} {shape : Shape} → answer ≡ shape_of o → answer ≡ LaidOut shape → Rows shape.filters shape.eqs shape.notes ≡ used_in o
+pub rows_told : (o : Option View) {answer : Option Shape} {shape : Shape} → answer ≡ shape_of o → answer ≡ Some shape → (Some (record { filters = shape.filters; eqs = shape.eqs; notes = shape.notes })) ≡ used_in o
 unfolding shape_of used_in
-rows_told none e is = let z : ◌≡◌ {A = ℕ} 0 1 = cc in absurd (omega arith)
-rows_told (some v) {shape = shape} e is =
+rows_told None e is = let z : ◌≡◌ {A = ℕ} 0 1 = cc in absurd (omega arith)
+rows_told (Some v) {shape = shape} e is =
     let all : record { counts = v.counts; text = length v.text; filters = length v.filters; eqs = length v.eqs; notes = length v.notes } ≡ shape = cc in
-    sym (ap (λ (s : Shape). Rows s.filters s.eqs s.notes) all)
+    sym (ap (λ (s : Shape). (Some (record { filters = s.filters; eqs = s.eqs; notes = s.notes }))) all)
 
-pub none_told : (o : Option View) {answer : ShapeRead} → answer ≡ shape_of o → answer ≡ MalformedShape → Malformed ≡ used_in o
+pub none_told : (o : Option View) {answer : Option Shape} → answer ≡ shape_of o → answer ≡ None → None ≡ used_in o
 unfolding shape_of used_in
-none_told none e is = refl
-none_told (some v) e is = let z : ◌≡◌ {A = ℕ} 0 1 = cc in absurd (omega arith)
+none_told None e is = refl
+none_told (Some v) e is = let z : ◌≡◌ {A = ℕ} 0 1 = cc in absurd (omega arith)
 
 -- no table has over 4,096 rows
-pub used_small : (s : List ℕ) {f e n : ℕ} → used_in (view s) ≡ Rows f e n → (f ≤ 4096) × (e ≤ 4096) × (n ≤ 4096)
+pub used_small : (s : List ℕ) {f e n : ℕ} → used_in (view s) ≡ (Some (record { filters = f; eqs = e; notes = n })) → (f ≤ 4096) × (e ≤ 4096) × (n ≤ 4096)
 unfolding used_in
 used_small s {f} {e} {n} is = by (view s) refl is
   where
-    by : (o : Option View) → view s ≡ o → used_in o ≡ Rows f e n → (f ≤ 4096) × (e ≤ 4096) × (n ≤ 4096)
-    by none q r = let z : ◌≡◌ {A = ℕ} 0 1 = cc in absurd (omega arith)
-    by (some v) q r =
+    by : (o : Option View) → view s ≡ o → used_in o ≡ (Some (record { filters = f; eqs = e; notes = n })) → (f ≤ 4096) × (e ≤ 4096) × (n ≤ 4096)
+    by None q r = let z : ◌≡◌ {A = ℕ} 0 1 = cc in absurd (omega arith)
+    by (Some v) q r =
         let w = well_formed_parts v (view-well_formed s v q) in
         let c = fit_range v.counts (openable_parts v.counts v.text w.head).counts in
-        let f-is : length v.filters ≡ f = cc in
-        let e-is : length v.eqs ≡ e = cc in
-        let n-is : length v.notes ≡ n = cc in
+        let all : ◌≡◌ {A = Used} (record { filters = length v.filters; eqs = length v.eqs; notes = length v.notes }) (record { filters = f; eqs = e; notes = n }) = cc in
+        let f-is = ap (λ (u : Used). u.filters) all in
+        let e-is = ap (λ (u : Used). u.eqs) all in
+        let n-is = ap (λ (u : Used). u.notes) all in
         (omega (arith, w.filters.fits, c.filters_most), omega (arith, w.eqs.fits, c.eqs_most), omega (arith, w.notes.fits, c.notes_most))
 
 -- a line ends before the next begins

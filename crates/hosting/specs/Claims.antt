@@ -1,6 +1,5 @@
 -- What is claimed of plain names, of templates and of leaving under a shared session number.
-use Rattle.std.specs.Prelude.{ℕ, ◌+◌, ◌≤◌, ◌≡◌, Bool, true, false, ◌&&◌, List, length}
-use Rattle.std.proofs.Math.Option.{Option}
+use Rattle.std.specs.Prelude.{ℕ, ◌+◌, ◌≤◌, ◌≡◌, Bool, true, false, ◌&&◌, List, length, Option}
 use Rattle.table.specs.Table.{some_row, keep, adds, change}
 use Rattle.rule.specs.Fill.{or_nothing, fill}
 use Rattle.rule.specs.RuleText.{Filled, rules_of, filled, of_kind}

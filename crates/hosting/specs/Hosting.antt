@@ -1,14 +1,12 @@
 -- What a host asks beside the calls of document 01: plain names, the templates of a rule text, the used rows of a store.
-use Rattle.std.specs.Prelude.{ℕ, suc, ◌+◌, Bool, true, false, ◌&&◌, ◌||◌, not, cond, List, [], ◌∷◌, eqb, length}
+use Rattle.std.specs.Prelude.{ℕ, suc, ◌+◌, Bool, true, false, ◌&&◌, ◌||◌, not, cond, List, [], ◌∷◌, eqb, length, Option, None, Some}
 use Rattle.std.specs.Bool.{beq}
-use Rattle.std.proofs.Math.Option.{Option, none, some}
 use Rattle.topic.specs.Topic.{metadata}
 use Rattle.rule.specs.Rule.{Meaning, TopicOf, is_template}
 use Rattle.rule.specs.RuleText.{read_rule, rule_on, rules_of, listed}
 use Rattle.store.specs.Store.{View}
 use Rattle.hosting.specs.declared.Templates.{Templates}
 use Rattle.hosting.specs.declared.Used.{Used}
-use Rattle.hosting.specs.declared.Used.TheVariants.{Rows, Malformed}
 
 -- a byte that separates levels or is a wildcard
 unfoldable pub is_special : ℕ → Bool
@@ -40,6 +38,6 @@ unfoldable pub templates : List ℕ → Templates
 templates text = record { filters = templates_of false (rules_of text); eqs = templates_of true (rules_of text) }
 
 -- the used rows of what a store means
-unfoldable pub used_in : Option View → Used
-used_in none = Malformed
-used_in (some v) = Rows (length v.filters) (length v.eqs) (length v.notes)
+unfoldable pub used_in : Option View → Option Used
+used_in None = None
+used_in (Some v) = Some (record { filters = (length v.filters); eqs = (length v.eqs); notes = (length v.notes) })

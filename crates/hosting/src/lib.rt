@@ -2,81 +2,57 @@
 // client, and how many rows a store uses.
 #![tactic(auto)]
 
-ghost use Rattle.std.specs.Prelude.{◌≡◌, ◌≤◌, length};
+ghost use Rattle.std.specs.Prelude.{◌≡◌, ◌≤◌, true, false, length};
 ghost use Rattle.json_text.specs.Lines.{line_at};
 ghost use Rattle.store.specs.View.{view};
 ghost use Rattle.hosting.specs.Hosting as spec;
 ghost use Rattle.hosting.specs.Walk as walk;
 
 use events::templates::{first_topic, next_topic};
-use json_text::Place;
 use json_text::splitting::{line_at, next_line};
 use rule::Topic;
 use rule::topic_list::topic_at;
-use store::{ShapeRead, check};
+use store::check;
 
 // How many filter and eq templates there are.
-#[derive(Clone, Copy)]
+#[derive(Clone, Copy, Debug, PartialEq, Eq)]
 pub struct Templates {
     pub filters: usize,
     pub eqs: usize,
 }
 
 // The used filter, eq and note rows of a store.
-#[derive(Clone, Copy)]
-pub enum Used {
-    Rows(usize, usize, usize),
-    Malformed,
+#[derive(Clone, Copy, Debug, PartialEq, Eq)]
+pub struct Used {
+    pub filters: usize,
+    pub eqs: usize,
+    pub notes: usize,
 }
 
 // Does the byte separate levels, or is it a wildcard?
+#[tactic(auto, unfolding(crate::specs::Hosting::is_special))]
 fn is_special(b: u8) -> bool
     ensures { result ≡ spec.is_special b }
 {
-    if b == b'+' {
-        return true;
-    }
-    if b == b'#' {
-        return true;
-    }
-    b == b'/'
+    matches!(b, b'+' | b'#' | b'/')
 }
 
 // Is it a text that adds no level and no wildcard to a template, and doesn't begin with `$`?
 pub fn plain_name(name: &[u8]) -> bool
     ensures { result ≡ spec.plain_name name.now }
 {
-    if text::begins(name, b"$") {
-        return false;
-    }
-    let mut i = 0;
-    while i < name.len() {
-        if is_special(name[i]) {
-            return false;
-        }
-        i += 1;
-    }
-    true
+    !name.starts_with(b"$") && name.iter().all(|b| !is_special(*b))
 }
 
-// 1 for a template of this kind, else 0.
-fn count_of(eq: bool, topic: Topic) -> usize
-    ensures { result ≡ walk.count_of eq topic }
+// A topic as it counts: a filter template, an eq template, or none.
+#[tactic(auto, unfolding(crate::specs::Walk::count_of))]
+fn counted(topic: Option<Topic>) -> Templates
+    ensures { result ≡ record { filters = walk.count_of false topic; eqs = walk.count_of true topic } }
 {
     match topic {
-        Topic::Template(_) => {
-            if eq {
-                return 0;
-            }
-            1
-        }
-        Topic::EqTemplate(_) => {
-            if eq {
-                return 1;
-            }
-            0
-        }
-        _ => 0,
+        Some(Topic::Template(_)) => Templates { filters: 1, eqs: 0 },
+        Some(Topic::EqTemplate(_)) => Templates { filters: 0, eqs: 1 },
+        _ => Templates { filters: 0, eqs: 0 },
     }
 }
 
@@ -89,21 +65,15 @@ fn line_templates(rules: &[u8], at: usize) -> Templates
     let mut filters = 0;
     let mut eqs = 0;
     let mut next = first_topic(rules, at);
-    // The topics that may still come: each takes a byte of its line at least, so there are no more than bytes.
-    let mut turns = line.len();
-    while turns > 0 {
-        match next {
-            Place::Nowhere => {
-                return Templates { filters, eqs };
-            }
-            Place::At(p) => {
-                let topic = topic_at(line, p);
-                filters += count_of(false, topic);
-                eqs += count_of(true, topic);
-                next = next_topic(rules, at, p);
-                turns -= 1;
-            }
-        }
+    // Each topic takes a byte of its line at least, so there are no more than bytes.
+    for _ in 0..line.len() {
+        let Some(p) = next else {
+            break;
+        };
+        let here = counted(topic_at(line, p));
+        filters += here.filters;
+        eqs += here.eqs;
+        next = next_topic(rules, at, p);
     }
     Templates { filters, eqs }
 }
@@ -126,11 +96,13 @@ pub fn count_templates(rules: &[u8]) -> Templates
 }
 
 // How many rows of each table a store uses, if it is as laid out.
-pub fn used_rows(store: &[u8]) -> Used
+pub fn used_rows(store: &[u8]) -> Option<Used>
     ensures { result ≡ spec.used_in (view store.now) }
 {
-    let ShapeRead::LaidOut(shape) = check::shape(store) else {
-        return Used::Malformed;
-    };
-    Used::Rows(shape.filters, shape.eqs, shape.notes)
+    let shape = check::shape(store)?;
+    Some(Used {
+        filters: shape.filters,
+        eqs: shape.eqs,
+        notes: shape.notes,
+    })
 }

@@ -5,7 +5,8 @@ use native.Mathlib.Omega.{arith}
 use mathlib.Core.Path.{◌≡◌, refl, sym, ap, subst, ◌∙◌}
 use mathlib.Core.Bool.{Bool, true, false, cond, true≢false}
 use mathlib.Core.List.{List, [], ◌∷◌}
-use mathlib.Core.Option.{Option, none, some, bind}
+use Rattle.std.specs.Prelude.{Option, None, Some, option_map, option_and_then}
+use Rattle.text.specs.Maybe.{bind}
 use lib.Dec.{eqb}
 use lib.ListN.{length, drop}
 use borrow.Author.Tests.{eqb-true, eqb-false}
@@ -17,25 +18,20 @@ use Rattle.json_text.specs.Access.{member_value, value_here, kind_at, first_item
 use Rattle.json_text.specs.declared.Kind.{Kind}
 use Rattle.json_text.specs.declared.Kind.TheVariants.{Number, Text, Word}
 use Rattle.json_text.specs.declared.Separator.{Separator}
-use Rattle.json_text.specs.declared.Separator.TheVariants.{Close, Comma, Neither}
-use Rattle.json_text.specs.declared.Place.{Place}
-use Rattle.json_text.specs.declared.Place.TheVariants.{At, Nowhere}
-use Rattle.json_text.specs.declared.Found.{Found}
-use Rattle.json_text.specs.declared.Found.TheVariants.{Is, Absent}
-use Rattle.json_text.specs.declared.Truth.TheVariants.{Unknown}
+use Rattle.json_text.specs.declared.Separator.TheVariants.{Close, Comma}
 use Rattle.json_text.proofs.ScanLaws.{blanks_from, close_next, comma_next, name_next}
 use Rattle.json_text.proofs.ValueLaws.{All, all_map, items_hold, value_next, value_deeper, inner, value_as, value_by, elements_from, members_from, array_by, object_by, with_element, with_member}
-use Rattle.json_text.proofs.AccessSteps.{name_string, value_place, OfKind, kind_is, value_kind, byte_front, word_kind, bracket_kind, opening, kind_opens, opens_here, first_by_lem, count_in, count_in_lem, named_of, named_of_lem}
+use Rattle.json_text.proofs.AccessSteps.{name_string, value_place, OfKind, kind_is, value_kind, byte_front, word_kind, bracket_kind, opening, kind_opens, opens_here, first_by_lem, count_in, named_of}
 
 -- ---- at a place of the tree
 
 -- the item behind an item, by what separates them
-unfoldable pub place_behind : Separator → Place
-place_behind (Close next) = Nowhere
-place_behind (Comma next) = At next
-place_behind Neither = Nowhere
+unfoldable pub place_behind : Option Separator → Option ℕ
+place_behind (Some (Close next)) = None
+place_behind (Some (Comma next)) = Some next
+place_behind None = None
 
-next_separated : (close : ℕ) (line : List ℕ) (at : ℕ) {r : Read Json} → eqb close 0x2c ≡ false → value_here line at ≡ some r
+next_separated : (close : ℕ) (line : List ℕ) (at : ℕ) {r : Read Json} → eqb close 0x2c ≡ false → value_here line at ≡ Some r
     → next_item line at ≡ place_behind (separator_at close line r.next)
 unfolding next_item after_comma separator_at is_at place_behind
 next_separated close line at {r} h e = ap (after_comma line) e ∙ by (is_at line p close) (is_at line p 0x2c) refl refl
@@ -44,7 +40,7 @@ next_separated close line at {r} h e = ap (after_comma line) e ∙ by (is_at lin
     p = skip_blanks line r.next
 
     by : (b c : Bool) → is_at line p close ≡ b → is_at line p 0x2c ≡ c
-        → cond c (At (skip_blanks line (p + 1))) Nowhere ≡ place_behind (cond b (Close (p + 1)) (cond c (Comma (skip_blanks line (p + 1))) Neither))
+        → cond c (Some (skip_blanks line (p + 1))) None ≡ place_behind (cond b (Some (Close (p + 1))) (cond c (Some (Comma (skip_blanks line (p + 1)))) None))
     by true true q k = absurd (eqb-false close 0x2c h (sym (eqb-true (byte_at line p) close q) ∙ eqb-true (byte_at line p) 0x2c k))
     by true false q k = refl
     by false true q k = refl
@@ -52,37 +48,37 @@ next_separated close line at {r} h e = ap (after_comma line) e ∙ by (is_at lin
 
 -- what was read under a name
 named_inside : {A : Type 0} (make : A → Json) → ((a b : A) → make a ≡ make b → a ≡ b) → (P : Read A → Type 0) (o : Option (Read A)) {r : Read Json} {a : A}
-    → All P o → read_as make o ≡ some r → r.value ≡ make a → P (record { value = a; next = r.next })
+    → All P o → read_as make o ≡ Some r → r.value ≡ make a → P (record { value = a; next = r.next })
 unfolding read_as
-named_inside make same-made P none h e q = let z : ◌≡◌ {A = ℕ} 0 1 = cc in absurd (omega arith)
-named_inside make same-made P (some x) {r} {a} h e q =
+named_inside make same-made P None h e q = let z : ◌≡◌ {A = ℕ} 0 1 = cc in absurd (omega arith)
+named_inside make same-made P (Some x) {r} {a} h e q =
     let v : make x.value ≡ make a = cc in
     let n : x.next ≡ r.next = cc in
     let w = same-made x.value a v in
     subst P (λ i. record { value = w i; next = n i }) h
 
 -- the kind of a value that was read is that of its byte
-pub kind_is_lem : (depth : ℕ) (line : List ℕ) (at : ℕ) {r : Read Json} → value_at depth line at ≡ some r → kind_at line at ≡ kind_is r.value
+pub kind_is_lem : (depth : ℕ) (line : List ℕ) (at : ℕ) {r : Read Json} → value_at depth line at ≡ Some r → kind_at line at ≡ kind_is r.value
 unfolding kind_at
 kind_is_lem depth line at e = sym (subst (OfKind (kind_of (byte_at line at))) e (value_kind depth line at))
 
-opens_is : (within_object : Bool) (depth : ℕ) (line : List ℕ) (at : ℕ) {r : Read Json} → value_at depth line at ≡ some r → kind_is r.value ≡ bracket_kind within_object
+opens_is : (within_object : Bool) (depth : ℕ) (line : List ℕ) (at : ℕ) {r : Read Json} → value_at depth line at ≡ Some r → kind_is r.value ≡ bracket_kind within_object
     → is_at line at (opening within_object) ≡ true
 unfolding kind_at
 opens_is within_object depth line at e q = kind_opens within_object line at (kind_is_lem depth line at e ∙ q)
 
 -- the place of the first of these elements, of these members
-unfoldable pub element_place : Elements → Place
-element_place no_element = Nowhere
-element_place (element at value rest) = At at
+unfoldable pub element_place : Elements → Option ℕ
+element_place no_element = None
+element_place (element at value rest) = Some at
 
-unfoldable pub member_place : Members → Place
-member_place no_member = Nowhere
-member_place (member at name value_start value rest) = At at
+unfoldable pub member_place : Members → Option ℕ
+member_place no_member = None
+member_place (member at name value_start value rest) = Some at
 
 -- an element of this value stands from `at` to `next`, no further than `high`, and the one behind it at `rest`
-pub record ElementIs (line : List ℕ) (high at next : ℕ) (value : Json) (rest : Place) : Type 0 where
-  pub reads : value_here line at ≡ some (record { value = value; next = next })
+pub record ElementIs (line : List ℕ) (high at next : ℕ) (value : Json) (rest : Option ℕ) : Type 0 where
+  pub reads : value_here line at ≡ Some (record { value = value; next = next })
   pub before : next ≤ high
   pub onward : next_item line at ≡ rest
 
@@ -98,12 +94,12 @@ lower_elements line low lower high (element at value rest) h k = (k.0, le_trans 
 
 module _ (line : List ℕ) where
   abbrev ReadElement : ℕ → Read (ℕ × Json) → Type 0
-  ReadElement at r = (r.value.0 ≡ at) × (value_at 7 line r.value.0 ≡ some (record { value = r.value.1; next = r.next }))
+  ReadElement at r = (r.value.0 ≡ at) × (value_at 7 line r.value.0 ≡ Some (record { value = r.value.1; next = r.next }))
 
   abbrev ReadElements : ℕ → Read Elements → Type 0
-  ReadElements at r = (at < r.next) × (element_place r.value ≡ At at) × ElementsIn line at r.next r.value
+  ReadElements at r = (at < r.next) × (element_place r.value ≡ Some at) × ElementsIn line at r.next r.value
 
-  element_is : (at high : ℕ) (r : Read (ℕ × Json)) {s : Separator} {rest : Place} → ReadElement at r → separator_at 0x5d line r.next ≡ s → place_behind s ≡ rest
+  element_is : (at high : ℕ) (r : Read (ℕ × Json)) {s : Option Separator} {rest : Option ℕ} → ReadElement at r → separator_at 0x5d line r.next ≡ s → place_behind s ≡ rest
       → r.next ≤ high → ElementIs line high r.value.0 r.next r.value.1 rest
   element_is at high r h e q k =
       let reads = value_deeper 7 8 line r.value.0 (omega arith) h.1 in
@@ -117,23 +113,23 @@ module _ (line : List ℕ) where
       each at = unfold element_at in by (value_at 7 line at) refl
         where
           by : (o : Option (Read Json)) → value_at 7 line at ≡ o → All (ReadElement at) (read_as (λ v. (at, v)) o)
-          by none e = unfold read_as in tt
-          by (some r) e = unfold read_as in (refl, e)
+          by None e = unfold read_as in tt
+          by (Some r) e = unfold read_as in (refl, e)
 
-      closed : (at : ℕ) (r : Read (ℕ × Json)) (next : ℕ) → ReadElement at r → separator_at 0x5d line r.next ≡ Close next
+      closed : (at : ℕ) (r : Read (ℕ × Json)) (next : ℕ) → ReadElement at r → separator_at 0x5d line r.next ≡ Some (Close next)
           → ReadElements at (record { value = with_element r.value no_element; next = next })
       closed at r next h e =
           let v = value_next 7 line r.value.0 h.1 in
           let n = close_next line r.next 0x5d (omega arith) e in
-          (omega arith, ap At h.0, (r.next, omega arith, element_is at next r h e refl (omega arith), tt))
+          (omega arith, ap Some h.0, (r.next, omega arith, element_is at next r h e refl (omega arith), tt))
 
-      onward : (at : ℕ) (r : Read (ℕ × Json)) (next : ℕ) (rest : Read Elements) → ReadElement at r → separator_at 0x5d line r.next ≡ Comma next → ReadElements next rest
+      onward : (at : ℕ) (r : Read (ℕ × Json)) (next : ℕ) (rest : Read Elements) → ReadElement at r → separator_at 0x5d line r.next ≡ Some (Comma next) → ReadElements next rest
           → ReadElements at (record { value = with_element r.value rest.value; next = rest.next })
       onward at r next rest h e k =
           let v = value_next 7 line r.value.0 h.1 in
           let n = comma_next line r.next 0x5d e in (
             omega arith,
-            ap At h.0,
+            ap Some h.0,
             (r.next, omega arith, element_is at rest.next r h e (sym k.1) (omega arith), lower_elements line next r.next rest.next rest.value (omega arith) k.2),
           )
 
@@ -142,7 +138,7 @@ pub record ArrayIs (line : List ℕ) (at next : ℕ) (es : Elements) : Type 0 wh
   pub first : first_item 0x5b 0x5d line at ≡ element_place es
   pub elements : ElementsIn line (at + 1) next es
 
-pub array_is : (line : List ℕ) (at : ℕ) {r : Read Json} {es : Elements} → value_here line at ≡ some r → r.value ≡ array es → ArrayIs line at r.next es
+pub array_is : (line : List ℕ) (at : ℕ) {r : Read Json} {es : Elements} → value_here line at ≡ Some r → r.value ≡ array es → ArrayIs line at r.next es
 unfolding bracketed
 array_is line at {r} {es} e q =
     named_inside array (λ a b h. cc) (λ x. ArrayIs line at x.next x.value) (array_at (value_at 7 line) line at)
@@ -163,11 +159,11 @@ array_is line at {r} {es} e q =
         (elements_from 7 line first) (elements_in line (length line - first) first))
 
 -- a member of this name stands at `at`, its value from `value_start` to `next`, no further than `high`, and the one behind it at `rest`
-pub record MemberIs (line : List ℕ) (high at : ℕ) (name : List ℕ) (value_start next : ℕ) (value : Json) (rest : Place) : Type 0 where
-  pub string : (d : Decoded) × (string_at line at ≡ some d) × (d.text ≡ name)
-  pub valued : member_value line at ≡ At value_start
+pub record MemberIs (line : List ℕ) (high at : ℕ) (name : List ℕ) (value_start next : ℕ) (value : Json) (rest : Option ℕ) : Type 0 where
+  pub string : (d : Decoded) × (string_at line at ≡ Some d) × (d.text ≡ name)
+  pub valued : member_value line at ≡ Some value_start
   pub between : at < value_start
-  pub reads : value_here line value_start ≡ some (record { value = value; next = next })
+  pub reads : value_here line value_start ≡ Some (record { value = value; next = next })
   pub before : next ≤ high
   pub onward : next_item line value_start ≡ rest
 
@@ -185,13 +181,13 @@ module _ (line : List ℕ) where
   abbrev ReadMember : ℕ → Read (ℕ × List ℕ × ℕ × Json) → Type 0
   ReadMember at r =
       (r.value.0 ≡ at)
-      × (name_at line r.value.0 ≡ some (record { value = r.value.1; next = r.value.2 }))
-      × (value_at 7 line r.value.2 ≡ some (record { value = r.value.3; next = r.next }))
+      × (name_at line r.value.0 ≡ Some (record { value = r.value.1; next = r.value.2 }))
+      × (value_at 7 line r.value.2 ≡ Some (record { value = r.value.3; next = r.next }))
 
   abbrev ReadMembers : ℕ → Read Members → Type 0
-  ReadMembers at r = (at < r.next) × (member_place r.value ≡ At at) × MembersIn line at r.next r.value
+  ReadMembers at r = (at < r.next) × (member_place r.value ≡ Some at) × MembersIn line at r.next r.value
 
-  member_is : (at high : ℕ) (r : Read (ℕ × List ℕ × ℕ × Json)) {s : Separator} {rest : Place}
+  member_is : (at high : ℕ) (r : Read (ℕ × List ℕ × ℕ × Json)) {s : Option Separator} {rest : Option ℕ}
       → ReadMember at r → separator_at 0x7d line r.next ≡ s → place_behind s ≡ rest → r.next ≤ high
       → MemberIs line high r.value.0 r.value.1 r.value.2 r.next r.value.3 rest
   member_is at high r h e q k =
@@ -212,33 +208,33 @@ module _ (line : List ℕ) where
       each : (at : ℕ) → All (ReadMember at) (member_at (value_at 7 line) line at)
       each at = unfold member_at in by (name_at line at) refl
         where
-          by_value : (n : Read (List ℕ)) → name_at line at ≡ some n → (o : Option (Read Json)) → value_at 7 line n.next ≡ o
+          by_value : (n : Read (List ℕ)) → name_at line at ≡ Some n → (o : Option (Read Json)) → value_at 7 line n.next ≡ o
               → All (ReadMember at) (read_as (λ v. (at, n.value, n.next, v)) o)
-          by_value n q none e = unfold read_as in tt
-          by_value n q (some r) e = unfold read_as in (refl, q, e)
+          by_value n q None e = unfold read_as in tt
+          by_value n q (Some r) e = unfold read_as in (refl, q, e)
 
           by : (o : Option (Read (List ℕ))) → name_at line at ≡ o
               → All (ReadMember at) (bind o (λ n. read_as (λ v. (at, n.value, n.next, v)) (value_at 7 line n.next)))
-          by none q = unfold bind in tt
-          by (some n) q = unfold bind in by_value n q (value_at 7 line n.next) refl
+          by None q = unfold bind in tt
+          by (Some n) q = unfold bind in by_value n q (value_at 7 line n.next) refl
 
-      closed : (at : ℕ) (r : Read (ℕ × List ℕ × ℕ × Json)) (next : ℕ) → ReadMember at r → separator_at 0x7d line r.next ≡ Close next
+      closed : (at : ℕ) (r : Read (ℕ × List ℕ × ℕ × Json)) (next : ℕ) → ReadMember at r → separator_at 0x7d line r.next ≡ Some (Close next)
           → ReadMembers at (record { value = with_member r.value no_member; next = next })
       closed at r next h e =
           let m = name_next line r.value.0 h.1 in
           let v = value_next 7 line r.value.2 h.2 in
           let n = close_next line r.next 0x7d (omega arith) e in
-          (omega arith, ap At h.0, (r.next, omega arith, member_is at next r h e refl (omega arith), tt))
+          (omega arith, ap Some h.0, (r.next, omega arith, member_is at next r h e refl (omega arith), tt))
 
       onward : (at : ℕ) (r : Read (ℕ × List ℕ × ℕ × Json)) (next : ℕ) (rest : Read Members)
-          → ReadMember at r → separator_at 0x7d line r.next ≡ Comma next → ReadMembers next rest
+          → ReadMember at r → separator_at 0x7d line r.next ≡ Some (Comma next) → ReadMembers next rest
           → ReadMembers at (record { value = with_member r.value rest.value; next = rest.next })
       onward at r next rest h e k =
           let m = name_next line r.value.0 h.1 in
           let v = value_next 7 line r.value.2 h.2 in
           let n = comma_next line r.next 0x7d e in (
             omega arith,
-            ap At h.0,
+            ap Some h.0,
             (r.next, omega arith, member_is at rest.next r h e (sym k.1) (omega arith), lower_members line next r.next rest.next rest.value (omega arith) k.2),
           )
 
@@ -247,7 +243,7 @@ pub record ObjectIs (line : List ℕ) (at next : ℕ) (ms : Members) : Type 0 wh
   pub first : first_item 0x7b 0x7d line at ≡ member_place ms
   pub members : MembersIn line (at + 1) next ms
 
-pub object_is : (line : List ℕ) (at : ℕ) {r : Read Json} {ms : Members} → value_here line at ≡ some r → r.value ≡ object ms → ObjectIs line at r.next ms
+pub object_is : (line : List ℕ) (at : ℕ) {r : Read Json} {ms : Members} → value_here line at ≡ Some r → r.value ≡ object ms → ObjectIs line at r.next ms
 unfolding bracketed
 object_is line at {r} {ms} e q =
     named_inside object (λ a b h. cc) (λ x. ObjectIs line at x.next x.value) (object_at (value_at 7 line) line at)
@@ -269,13 +265,13 @@ object_is line at {r} {ms} e q =
 
 -- ---- the accessors of a value, by the value
 
-pub count_is : (line : List ℕ) (at : ℕ) {r : Read Json} → value_here line at ≡ some r → element_count line at ≡ count_of r.value
-unfolding count_in
-count_is line at e = count_in_lem line at ∙ ap count_in e
+pub count_is : (line : List ℕ) (at : ℕ) {r : Read Json} → value_here line at ≡ Some r → element_count line at ≡ count_of r.value
+unfolding element_count
+count_is line at e = ap count_in e
 
-pub named_is : (name line : List ℕ) (at : ℕ) {r : Read Json} → value_here line at ≡ some r → member_named name line at ≡ named_in name r.value
-unfolding named_of
-named_is name line at e = named_of_lem name line at ∙ ap (named_of name) e
+pub named_is : (name line : List ℕ) (at : ℕ) {r : Read Json} → value_here line at ≡ Some r → member_named name line at ≡ named_in name r.value
+unfolding member_named
+named_is name line at e = ap (named_of name) e
 
 -- where a number, a word, a string is read, the byte says so
 digit_kind : (b : ℕ) → between 0x30 0x39 b ≡ true → kind_of b ≡ Number
@@ -295,7 +291,7 @@ number_kind line at = by (plain_number (digits (drop at line))) refl
         digit false q k = absurd (true≢false (sym k ∙ unfold plain_number in refl))
 
     by : (t : Bool) → plain_number (digits (drop at line)) ≡ t
-        → All {A = Read ℕ} (λ r. kind_of (byte_at line at) ≡ Number) (cond t (some (record { value = decimal 0 (digits (drop at line)); next = at + length (digits (drop at line)) })) none)
+        → All {A = Read ℕ} (λ r. kind_of (byte_at line at) ≡ Number) (cond t (Some (record { value = decimal 0 (digits (drop at line)); next = at + length (digits (drop at line)) })) None)
     by true e = ap kind_of (sym (byte_front line at)) ∙ digit_kind (byte_at (drop at line) 0) (first (drop at line) e)
     by false e = tt
 
@@ -304,47 +300,47 @@ unfolding text_at string_at kind_at
 text_kind line at = by (eqb (byte_at line at) quote) refl
   where
     read : (o : Option Decoded) → kind_of (byte_at line at) ≡ Text
-        → All (λ r. kind_of (byte_at line at) ≡ Text) (bind {B = Read (List ℕ)} o (λ d. some (record { value = d.text; next = at + 1 + d.size })))
-    read none k = unfold bind in tt
-    read (some d) k = unfold bind in k
+        → All (λ r. kind_of (byte_at line at) ≡ Text) (bind {B = Read (List ℕ)} o (λ d. Some (record { value = d.text; next = at + 1 + d.size })))
+    read None k = unfold bind in tt
+    read (Some d) k = unfold bind in k
 
     by : (t : Bool) → eqb (byte_at line at) quote ≡ t
         → All (λ r. kind_of (byte_at line at) ≡ Text)
-        (bind {B = Read (List ℕ)} (cond t (string_from zero (drop (at + 1) line)) none) (λ d. some (record { value = d.text; next = at + 1 + d.size })))
+        (bind {B = Read (List ℕ)} (cond t (string_from zero (drop (at + 1) line)) None) (λ d. Some (record { value = d.text; next = at + 1 + d.size })))
     by true e = read (string_from zero (drop (at + 1) line)) (ap kind_of (eqb-true (byte_at line at) quote e) ∙ unfold kind_of between in refl)
     by false e = unfold bind in tt
 
 -- what reads a kind of value reads it where a value of that kind stands, and nothing where another stands
 module _ {A X : Type 0} (kind : Kind) (make : A → Json) (of : Json → X) (absent : X) (other : (v : Json) → (kind_is v ≡ kind → ⊥) → of v ≡ absent) where
   unfoldable picked : Option (Read A) → X
-  picked none = absent
-  picked (some x) = of (make x.value)
+  picked None = absent
+  picked (Some x) = of (make x.value)
 
   picked_is : (depth : ℕ) (line : List ℕ) (at : ℕ) (o : Option (Read A)) {r : Read Json} → All (λ x. kind_at line at ≡ kind) o
-      → value_as (inner depth line) line at kind ≡ read_as make o → value_at depth line at ≡ some r → picked o ≡ of r.value
+      → value_as (inner depth line) line at kind ≡ read_as make o → value_at depth line at ≡ Some r → picked o ≡ of r.value
   unfolding picked kind_at read_as
-  picked_is depth line at none {r} h q e = sym (other r.value (λ k. never (sym (value_by depth line at (kind_is_lem depth line at e ∙ k) ∙ q) ∙ e)))
+  picked_is depth line at None {r} h q e = sym (other r.value (λ k. never (sym (value_by depth line at (kind_is_lem depth line at e ∙ k) ∙ q) ∙ e)))
     where
-      never : none ≡ some r → ⊥
+      never : None ≡ Some r → ⊥
       never z = let w : ◌≡◌ {A = ℕ} 0 1 = cc in omega arith
-  picked_is depth line at (some x) {r} h q e =
-      let w : some (record { value = make x.value; next = x.next }) ≡ some r = sym (value_by depth line at h ∙ q) ∙ e in
+  picked_is depth line at (Some x) {r} h q e =
+      let w : Some (record { value = make x.value; next = x.next }) ≡ Some r = sym (value_by depth line at h ∙ q) ∙ e in
       let v : make x.value ≡ r.value = cc in
       ap of v
 
-unfoldable pub number_of : Json → Found
-number_of null = Absent
-number_of (bool b) = Absent
-number_of (number n) = Is n
-number_of (text t) = Absent
-number_of (array es) = Absent
-number_of (object ms) = Absent
+unfoldable pub number_of : Json → Option ℕ
+number_of null = None
+number_of (bool b) = None
+number_of (number n) = Some n
+number_of (text t) = None
+number_of (array es) = None
+number_of (object ms) = None
 
-pub number_is : (depth : ℕ) (line : List ℕ) (at : ℕ) {r : Read Json} → value_at depth line at ≡ some r → number_here line at ≡ number_of r.value
+pub number_is : (depth : ℕ) (line : List ℕ) (at : ℕ) {r : Read Json} → value_at depth line at ≡ Some r → number_here line at ≡ number_of r.value
 unfolding number_here value_as
-number_is depth line at e = by (number_at line at) ∙ picked_is Number number number_of Absent other depth line at (number_at line at) (number_kind line at) refl e
+number_is depth line at e = by (number_at line at) ∙ picked_is Number number number_of None other depth line at (number_at line at) (number_kind line at) refl e
   where
-    other : (v : Json) → (kind_is v ≡ Number → ⊥) → number_of v ≡ Absent
+    other : (v : Json) → (kind_is v ≡ Number → ⊥) → number_of v ≡ None
     other null h = unfold number_of in refl
     other (bool b) h = unfold number_of in refl
     other (number n) h = absurd (h (unfold kind_is in refl))
@@ -352,15 +348,15 @@ number_is depth line at e = by (number_at line at) ∙ picked_is Number number n
     other (array es) h = unfold number_of in refl
     other (object ms) h = unfold number_of in refl
 
-    by : (o : Option (Read ℕ)) → elim o [ none ↦ Absent | some r ↦ Is r.value ] ≡ picked Number number number_of Absent other o
-    by none = unfold picked in refl
-    by (some r) = unfold picked number_of in refl
+    by : (o : Option (Read ℕ)) → option_map (λ (r : Read ℕ). r.value) o ≡ picked Number number number_of None other o
+    by None = unfold picked in refl
+    by (Some r) = unfold picked number_of in refl
 
-pub truth_is : (depth : ℕ) (line : List ℕ) (at : ℕ) {r : Read Json} → value_at depth line at ≡ some r → truth_here line at ≡ truth_of r.value
+pub truth_is : (depth : ℕ) (line : List ℕ) (at : ℕ) {r : Read Json} → value_at depth line at ≡ Some r → truth_here line at ≡ truth_of r.value
 unfolding truth_here value_as
-truth_is depth line at e = by (word_at line at) ∙ picked_is Word (λ v. v) truth_of Unknown other depth line at (word_at line at) (all_map (λ r h. h.1) (word_at line at) (word_kind line at)) (itself (word_at line at)) e
+truth_is depth line at e = by (word_at line at) ∙ picked_is Word (λ v. v) truth_of None other depth line at (word_at line at) (all_map (λ r h. h.1) (word_at line at) (word_kind line at)) (itself (word_at line at)) e
   where
-    other : (v : Json) → (kind_is v ≡ Word → ⊥) → truth_of v ≡ Unknown
+    other : (v : Json) → (kind_is v ≡ Word → ⊥) → truth_of v ≡ None
     other null h = absurd (h (unfold kind_is in refl))
     other (bool b) h = absurd (h (unfold kind_is in refl))
     other (number n) h = unfold truth_of in refl
@@ -369,12 +365,12 @@ truth_is depth line at e = by (word_at line at) ∙ picked_is Word (λ v. v) tru
     other (object ms) h = unfold truth_of in refl
 
     itself : (o : Option (Read Json)) → o ≡ read_as (λ v. v) o
-    itself none = unfold read_as in refl
-    itself (some r) = unfold read_as in refl
+    itself None = unfold read_as in refl
+    itself (Some r) = unfold read_as in refl
 
-    by : (o : Option (Read Json)) → elim o [ none ↦ Unknown | some r ↦ truth_of r.value ] ≡ picked Word (λ v. v) truth_of Unknown other o
-    by none = unfold picked in refl
-    by (some r) = unfold picked in refl
+    by : (o : Option (Read Json)) → option_and_then (λ r. truth_of r.value) o ≡ picked Word (λ v. v) truth_of None other o
+    by None = unfold picked in refl
+    by (Some r) = unfold picked in refl
 
 -- a text that a string's value gives
 unfoldable pub text_of : {X : Type 0} → (List ℕ → X) → X → Json → X
@@ -385,8 +381,8 @@ text_of given absent (text t) = given t
 text_of given absent (array es) = absent
 text_of given absent (object ms) = absent
 
-text_is : {X : Type 0} (given : List ℕ → X) (absent : X) (depth : ℕ) (line : List ℕ) (at : ℕ) {r : Read Json} → value_at depth line at ≡ some r
-    → elim (string_at line at) [ none ↦ absent | some d ↦ given d.text ] ≡ text_of given absent r.value
+text_is : {X : Type 0} (given : List ℕ → X) (absent : X) (depth : ℕ) (line : List ℕ) (at : ℕ) {r : Read Json} → value_at depth line at ≡ Some r
+    → elim (string_at line at) [ None ↦ absent | Some d ↦ given d.text ] ≡ text_of given absent r.value
 unfolding value_as text_at
 text_is given absent depth line at e =
     by (string_at line at) ∙ picked_is Text text (text_of given absent) absent other depth line at (text_at line at) (text_kind line at) refl e
@@ -399,75 +395,79 @@ text_is given absent depth line at e =
     other (array es) h = unfold text_of in refl
     other (object ms) h = unfold text_of in refl
 
-    by : (o : Option Decoded) → elim o [ none ↦ absent | some d ↦ given d.text ]
-        ≡ picked Text text (text_of given absent) absent other (bind {B = Read (List ℕ)} o (λ d. some (record { value = d.text; next = at + 1 + d.size })))
-    by none = unfold picked bind in refl
-    by (some d) = unfold picked bind text_of in refl
+    by : (o : Option Decoded) → elim o [ None ↦ absent | Some d ↦ given d.text ]
+        ≡ picked Text text (text_of given absent) absent other (bind {B = Read (List ℕ)} o (λ d. Some (record { value = d.text; next = at + 1 + d.size })))
+    by None = unfold picked bind in refl
+    by (Some d) = unfold picked bind text_of in refl
 
-pub string_is_lem : (depth : ℕ) (line : List ℕ) (at : ℕ) (t : List ℕ) {r : Read Json} → value_at depth line at ≡ some r
+pub string_is_lem : (depth : ℕ) (line : List ℕ) (at : ℕ) (t : List ℕ) {r : Read Json} → value_at depth line at ≡ Some r
     → string_is line at t ≡ text_of (λ s. same s t) false r.value
 unfolding string_is
 string_is_lem depth line at t e = text_is (λ s. same s t) false depth line at e
 
-pub length-is : (depth : ℕ) (line : List ℕ) (at : ℕ) {r : Read Json} → value_at depth line at ≡ some r
-    → decoded_length line at ≡ text_of (λ s. Is (length s)) Absent r.value
+pub length-is : (depth : ℕ) (line : List ℕ) (at : ℕ) {r : Read Json} → value_at depth line at ≡ Some r
+    → decoded_length line at ≡ text_of (λ s. Some (length s)) None r.value
 unfolding decoded_length
-length-is depth line at e = text_is (λ s. Is (length s)) Absent depth line at e
+length-is depth line at e = by (string_at line at) ∙ text_is (λ s. Some (length s)) None depth line at e
+  where
+    by : (o : Option Decoded) → option_map (λ (d : Decoded). length d.text) o ≡ elim o [ None ↦ None | Some d ↦ Some (length d.text) ]
+    by None = refl
+    by (Some d) = refl
 
 -- the string itself
-pub string_here : (depth : ℕ) (line : List ℕ) (at : ℕ) {r : Read Json} {t : List ℕ} → value_at depth line at ≡ some r → r.value ≡ text t
-    → (d : Decoded) × (string_at line at ≡ some d) × (d.text ≡ t)
+pub string_here : (depth : ℕ) (line : List ℕ) (at : ℕ) {r : Read Json} {t : List ℕ} → value_at depth line at ≡ Some r → r.value ≡ text t
+    → (d : Decoded) × (string_at line at ≡ Some d) × (d.text ≡ t)
 unfolding text_of
-string_here depth line at {r} {t} e q = by (string_at line at) (text_is some none depth line at e ∙ ap (text_of some none) q)
+string_here depth line at {r} {t} e q = by (string_at line at) (text_is Some None depth line at e ∙ ap (text_of Some None) q)
   where
-    by : (o : Option Decoded) → elim o as (λ o. Option (List ℕ)) [ none ↦ none | some d ↦ some d.text ] ≡ some t → (d : Decoded) × (o ≡ some d) × (d.text ≡ t)
-    by none h = let z : ◌≡◌ {A = ℕ} 0 1 = cc in absurd (omega arith)
-    by (some d) h = (d, refl, cc)
+    by : (o : Option Decoded) → elim o as (λ o. Option (List ℕ)) [ None ↦ None | Some d ↦ Some d.text ] ≡ Some t → (d : Decoded) × (o ≡ Some d) × (d.text ≡ t)
+    by None h = let z : ◌≡◌ {A = ℕ} 0 1 = cc in absurd (omega arith)
+    by (Some d) h = (d, refl, cc)
 
 -- ---- the value of a member by its name, and of a line
 
 -- the value of the last member with the name
 unfoldable pub last_value : List ℕ → Members → Option Json → Option Json
 last_value name no_member found = found
-last_value name (member at n value_start value rest) found = last_value name rest (cond (same n name) (some value) found)
+last_value name (member at n value_start value rest) found = last_value name rest (cond (same n name) (Some value) found)
 
 -- this value stands at this place, or none at none
-abbrev pub FoundIs : List ℕ → Place → Option Json → Type 0
-FoundIs line Nowhere none = Unit {0}
-FoundIs line Nowhere (some value) = ⊥
-FoundIs line (At at) none = ⊥
-FoundIs line (At at) (some value) = (next : ℕ) × (value_here line at ≡ some (record { value = value; next = next }))
+abbrev pub FoundIs : List ℕ → Option ℕ → Option Json → Type 0
+FoundIs line None None = Unit {0}
+FoundIs line None (Some value) = ⊥
+FoundIs line (Some at) None = ⊥
+FoundIs line (Some at) (Some value) = (next : ℕ) × (value_here line at ≡ Some (record { value = value; next = next }))
 
-last_found : (name line : List ℕ) (low high : ℕ) (ms : Members) (place : Place) (found : Option Json) → MembersIn line low high ms → FoundIs line place found
+last_found : (name line : List ℕ) (low high : ℕ) (ms : Members) (place : Option ℕ) (found : Option Json) → MembersIn line low high ms → FoundIs line place found
     → FoundIs line (last_named name ms place) (last_value name ms found)
 unfolding last_named last_value
 last_found name line low high no_member place found h k = k
 last_found name line low high (member at n value_start value rest) place found h k =
-    last_found name line h.0 high rest (cond (same n name) (At value_start) place) (cond (same n name) (some value) found) h.3 (by (same n name))
+    last_found name line h.0 high rest (cond (same n name) (Some value_start) place) (cond (same n name) (Some value) found) h.3 (by (same n name))
   where
-    by : (b : Bool) → FoundIs line (cond b (At value_start) place) (cond b (some value) found)
+    by : (b : Bool) → FoundIs line (cond b (Some value_start) place) (cond b (Some value) found)
     by true = (h.0, h.2.reads)
     by false = k
 
-pub member_is_last : (name line : List ℕ) (at : ℕ) {r : Read Json} {ms : Members} → value_here line at ≡ some r → r.value ≡ object ms
-    → FoundIs line (member_named name line at) (last_value name ms none)
+pub member_is_last : (name line : List ℕ) (at : ℕ) {r : Read Json} {ms : Members} → value_here line at ≡ Some r → r.value ≡ object ms
+    → FoundIs line (member_named name line at) (last_value name ms None)
 unfolding named_in
 member_is_last name line at {r} {ms} e q =
-    subst (λ p. FoundIs line p (last_value name ms none)) (sym (named_is name line at e ∙ ap (named_in name) q))
-    (last_found name line (at + 1) r.next ms Nowhere none (object_is line at e q).members tt)
+    subst (λ p. FoundIs line p (last_value name ms None)) (sym (named_is name line at e ∙ ap (named_in name) q))
+    (last_found name line (at + 1) r.next ms None None (object_is line at e q).members tt)
 
 -- the value of a line stands behind the blanks at its front
-pub line_is : (line : List ℕ) {v : Json} → line_value line ≡ some v → (next : ℕ) × (value_here line (skip_blanks line 0) ≡ some (record { value = v; next = next }))
+pub line_is : (line : List ℕ) {v : Json} → line_value line ≡ Some v → (next : ℕ) × (value_here line (skip_blanks line 0) ≡ Some (record { value = v; next = next }))
 unfolding line_value
 line_is line {v} = by (value_here line (skip_blanks line 0))
   where
-    ends : (r : Read Json) (b : Bool) → cond b (some r.value) none ≡ some v → r.value ≡ v
+    ends : (r : Read Json) (b : Bool) → cond b (Some r.value) None ≡ Some v → r.value ≡ v
     ends r true q = cc
     ends r false q = let z : ◌≡◌ {A = ℕ} 0 1 = cc in absurd (omega arith)
 
-    by : (o : Option (Read Json)) → bind o (λ r. cond (eqb (skip_blanks line r.next) (length line)) (some r.value) none) ≡ some v
-        → (next : ℕ) × (o ≡ some (record { value = v; next = next }))
-    by none q = unfold bind in let z : ◌≡◌ {A = ℕ} 0 1 = cc in absurd (omega arith)
-    by (some r) q =
+    by : (o : Option (Read Json)) → bind o (λ r. cond (eqb (skip_blanks line r.next) (length line)) (Some r.value) None) ≡ Some v
+        → (next : ℕ) × (o ≡ Some (record { value = v; next = next }))
+    by None q = unfold bind in let z : ◌≡◌ {A = ℕ} 0 1 = cc in absurd (omega arith)
+    by (Some r) q =
         let e = ends r (eqb (skip_blanks line r.next) (length line)) (unfold bind in q) in
-        (r.next, λ i. some (record { value = e i; next = r.next }))
+        (r.next, λ i. Some (record { value = e i; next = r.next }))

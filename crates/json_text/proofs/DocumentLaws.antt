@@ -1,20 +1,23 @@
 -- What the answer of `check` says of a line. Assumes nothing.
 use Prim.Native.Nat.{ℕ}
-use mathlib.Core.Path.{◌≡◌, refl, sym, ap}
-use mathlib.Core.Bool.{true, false}
-use mathlib.Core.Option.{Option, none, some}
-use native.Mathlib.Omega.{arith}
+use mathlib.Core.Path.{◌≡◌, refl}
+use mathlib.Core.Bool.{Bool, false}
+use Rattle.std.specs.Prelude.{Option, None, Some, is_some}
 use lib.Dec.{leb}
-use Rattle.json_text.specs.Json.{Json, longest}
+use Rattle.json_text.specs.Json.{Json}
 use Rattle.json_text.specs.Access.{checked, is_document, document_within}
-use Rattle.json_text.specs.declared.Checked.TheVariants.{Invalid, Valid}
 
-pub none_document : (o : Option Json) (most : ℕ) → checked o ≡ Invalid → (false ≡ is_document o) × (false ≡ document_within most o)
-unfolding checked is_document document_within
-none_document none most e = (refl, refl)
-none_document (some v) most e = let z : ◌≡◌ {A = ℕ} 0 1 = cc in absurd (omega arith)
+pub checked_document : (o : Option Json) → is_some (checked o) ≡ is_document o
+unfolding checked is_document
+checked_document None = refl
+checked_document (Some v) = refl
 
-pub some_document : (o : Option Json) (most n : ℕ) → checked o ≡ Valid n → (true ≡ is_document o) × (leb n most ≡ document_within most o)
-unfolding checked is_document document_within
-some_document none most n e = let z : ◌≡◌ {A = ℕ} 0 1 = cc in absurd (omega arith)
-some_document (some v) most n e = let z : longest v ≡ n = cc in (refl, ap (λ (k : ℕ). leb k most) (sym z))
+-- an answer that is at most so long
+abbrev pub within : ℕ → Option ℕ → Bool
+within most None = false
+within most (Some n) = leb n most
+
+pub checked_within : (most : ℕ) (o : Option Json) → within most (checked o) ≡ document_within most o
+unfolding checked document_within
+checked_within most None = refl
+checked_within most (Some v) = refl

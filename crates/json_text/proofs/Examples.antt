@@ -2,7 +2,8 @@
 use mathlib.Core.Path.{◌≡◌, refl}
 use mathlib.Core.Bool.{true, false}
 use mathlib.Core.List.{List, [], ◌∷◌, map}
-use mathlib.Core.Option.{Option, none, some, bind}
+use Rattle.std.specs.Prelude.{Option, None, Some}
+use Rattle.text.specs.Maybe.{bind}
 use Prim.Native.Nat.{ℕ}
 use Rattle.text.specs.Ascii.{ascii}
 use Rattle.text.specs.Text.{begins}
@@ -13,25 +14,25 @@ use Rattle.json_text.specs.Json.{Json, null, bool, number, text, array, object, 
 -- lines, each with its value
 pub worked : List (List ℕ × Option Json)
 worked =
-    (ascii "{ \"Image\": { \"Width\": 800, \"Height\": 600, \"Title\": \"View from 15th Floor\", \"Thumbnail\": { \"Url\": \"http://www.example.com/image/481989943\", \"Height\": 125, \"Width\": 100 }, \"Animated\" : false, \"IDs\": [116, 943, 234, 38793] } }", some (object (member 2 (ascii "Image") 11 (object (member 13 (ascii "Width") 22 (number 800) (member 27 (ascii "Height") 37 (number 600) (member 42 (ascii "Title") 51 (text (ascii "View from 15th Floor")) (member 75 (ascii "Thumbnail") 88 (object (member 90 (ascii "Url") 97 (text (ascii "http://www.example.com/image/481989943")) (member 139 (ascii "Height") 149 (number 125) (member 154 (ascii "Width") 163 (number 100) no_member)))) (member 170 (ascii "Animated") 183 (bool false) (member 190 (ascii "IDs") 197 (array (element 198 (number 116) (element 203 (number 943) (element 208 (number 234) (element 213 (number 38793) no_element))))) no_member))))))) no_member)))
-    ∷ (ascii "\"Hello world!\"", some (text (ascii "Hello world!")))
-    ∷ (ascii "42", some (number 42))
-    ∷ (ascii "true", some (bool true))
-    ∷ (ascii "\"\\uD834\\uDD1E\"", some (text (240 ∷ 157 ∷ 132 ∷ 158 ∷ [])))
-    ∷ (ascii "[\"allow\",{\"user\":\"bo\"}, 7 ,[true,null]]", some (array (element 1 (text (ascii "allow")) (element 9 (object (member 10 (ascii "user") 17 (text (ascii "bo")) no_member)) (element 24 (number 7) (element 27 (array (element 28 (bool true) (element 33 null no_element))) no_element))))))
-    ∷ (ascii " [ ] ", some (array no_element))
-    ∷ (ascii "{}", some (object no_member))
-    ∷ (ascii "18446744073709551615", some (number 18446744073709551615))
-    ∷ (ascii "[[[[[[[[]]]]]]]]", some (array (element 1 (array (element 2 (array (element 3 (array (element 4 (array (element 5 (array (element 6 (array (element 7 (array no_element) no_element)) no_element)) no_element)) no_element)) no_element)) no_element)) no_element)))
-    ∷ (ascii "[ { \"Latitude\": 37.7668, \"Longitude\": -122.3959 } ]", none)
-    ∷ (ascii "18446744073709551616", none)
-    ∷ (ascii "01", none)
-    ∷ (ascii "[[[[[[[[[]]]]]]]]]", none)
-    ∷ (ascii "\"\\uDD1E\"", none)
-    ∷ (ascii "[1,]", none)
-    ∷ (ascii "", none)
-    ∷ (ascii "7 7", none)
-    ∷ (ascii "tru", none)
+    (ascii "{ \"Image\": { \"Width\": 800, \"Height\": 600, \"Title\": \"View from 15th Floor\", \"Thumbnail\": { \"Url\": \"http://www.example.com/image/481989943\", \"Height\": 125, \"Width\": 100 }, \"Animated\" : false, \"IDs\": [116, 943, 234, 38793] } }", Some (object (member 2 (ascii "Image") 11 (object (member 13 (ascii "Width") 22 (number 800) (member 27 (ascii "Height") 37 (number 600) (member 42 (ascii "Title") 51 (text (ascii "View from 15th Floor")) (member 75 (ascii "Thumbnail") 88 (object (member 90 (ascii "Url") 97 (text (ascii "http://www.example.com/image/481989943")) (member 139 (ascii "Height") 149 (number 125) (member 154 (ascii "Width") 163 (number 100) no_member)))) (member 170 (ascii "Animated") 183 (bool false) (member 190 (ascii "IDs") 197 (array (element 198 (number 116) (element 203 (number 943) (element 208 (number 234) (element 213 (number 38793) no_element))))) no_member))))))) no_member)))
+    ∷ (ascii "\"Hello world!\"", Some (text (ascii "Hello world!")))
+    ∷ (ascii "42", Some (number 42))
+    ∷ (ascii "true", Some (bool true))
+    ∷ (ascii "\"\\uD834\\uDD1E\"", Some (text (240 ∷ 157 ∷ 132 ∷ 158 ∷ [])))
+    ∷ (ascii "[\"allow\",{\"user\":\"bo\"}, 7 ,[true,null]]", Some (array (element 1 (text (ascii "allow")) (element 9 (object (member 10 (ascii "user") 17 (text (ascii "bo")) no_member)) (element 24 (number 7) (element 27 (array (element 28 (bool true) (element 33 null no_element))) no_element))))))
+    ∷ (ascii " [ ] ", Some (array no_element))
+    ∷ (ascii "{}", Some (object no_member))
+    ∷ (ascii "18446744073709551615", Some (number 18446744073709551615))
+    ∷ (ascii "[[[[[[[[]]]]]]]]", Some (array (element 1 (array (element 2 (array (element 3 (array (element 4 (array (element 5 (array (element 6 (array (element 7 (array no_element) no_element)) no_element)) no_element)) no_element)) no_element)) no_element)) no_element)))
+    ∷ (ascii "[ { \"Latitude\": 37.7668, \"Longitude\": -122.3959 } ]", None)
+    ∷ (ascii "18446744073709551616", None)
+    ∷ (ascii "01", None)
+    ∷ (ascii "[[[[[[[[[]]]]]]]]]", None)
+    ∷ (ascii "\"\\uDD1E\"", None)
+    ∷ (ascii "[1,]", None)
+    ∷ (ascii "", None)
+    ∷ (ascii "7 7", None)
+    ∷ (ascii "tru", None)
     ∷ []
 
 -- one claim for all of them

@@ -12,3 +12,4 @@ pub mod AccessLaws
 pub mod DocumentLaws
 pub mod PlainLaws
 pub mod ElementLaws
+pub mod PlaceLaws

@@ -3,12 +3,13 @@ use Prim.Native.Nat.{ℕ, zero, suc, ◌+◌, ◌-◌, ◌≤◌, ◌<◌}
 use native.Mathlib.Numerals.{add-one}
 use native.Mathlib.Omega.{arith}
 use mathlib.Core.Path.{◌≡◌, refl, sym, ap, ◌∙◌}
-use mathlib.Core.Bool.{Bool, true, false, ◌&&◌, not, cond}
+use mathlib.Core.Bool.{Bool, true, false, cond}
 use mathlib.Core.List.{List, [], ◌∷◌}
-use lib.Dec.{eqb, leb, ltb, leb-zero, leb-suc-zero, leb-suc-suc}
+use lib.Dec.{eqb, ltb}
 use lib.ListN.{length, get_or, take, drop, length-drop, drop_of_length-le}
-use lib.Seq.{drop-cons, drop-drop, get_or-drop}
-use borrow.Author.Tests.{eq-eqb, ne_eqb, leb-true, ltb-true, ltb-false}
+use lib.Seq.{drop-cons, drop-drop}
+use borrow.Author.Tests.{eqb-false, eq-eqb, ne_eqb, ltb-true, ltb-false}
+use Rattle.memchr.specs.Find.{Nowhere, NoneBefore, Passes, is_byte}
 use Rattle.json_text.specs.Lines.{lf, extend_line, with_byte, lines, first_line, line_at, line_behind, next_line, count_up_to}
 
 -- past the text there is no line
@@ -30,44 +31,31 @@ pub end_onward : (text : List ℕ) (at : ℕ) → at < length text → (get_or t
 unfolding line_at first_line
 end_onward text at h e = rw (add-one, drop-cons text at 0 h, ne_eqb (get_or text at 0) lf e) (omega arith)
 
--- a line is longer than `i` bytes if it has as many and the next is no LF
-first_longer : (text : List ℕ) (i : ℕ) → i < length text
-    → (leb i (length (first_line text)) && not (eqb (get_or text i 0) lf)) ≡ leb (suc i) (length (first_line text))
+-- the first LF ends the line, and without one the text does
+first_found : (text : List ℕ) (n : ℕ) → n < length text → get_or text n 0 ≡ lf → ((k : ℕ) → k < n → get_or text k 0 ≡ lf → ⊥) → n ≡ length (first_line text)
 unfolding first_line
-first_longer [] i h = absurd (omega arith)
-first_longer (b ∷ text) zero h = at (eqb b lf)
-  where
-    at : (e : Bool) → (leb 0 (length (cond e [] (b ∷ first_line text))) && not e) ≡ leb 1 (length (cond e [] (b ∷ first_line text)))
-    at true = refl
-    at false = rw (leb-zero (suc (length (first_line text))), leb-suc-suc 0 (length (first_line text))) (sym (leb-zero (length (first_line text))))
-first_longer (b ∷ text) (suc i) h = at (eqb b lf) (first_longer text i (omega arith))
-  where
-    at : (e : Bool) → (leb i (length (first_line text)) && not (eqb (get_or text i 0) lf)) ≡ leb (suc i) (length (first_line text))
-        → (leb (suc i) (length (cond e [] (b ∷ first_line text))) && not (eqb (get_or text i 0) lf))
-        ≡ leb (suc (suc i)) (length (cond e [] (b ∷ first_line text)))
-    at true k = rw (leb-suc-zero i, leb-suc-zero (suc i))
-    at false k = rw (leb-suc-suc i (length (first_line text)), leb-suc-suc (suc i) (length (first_line text))) k
+first_found [] n h e f = absurd (omega arith)
+first_found (b ∷ text) zero h e f = rw (eq-eqb b lf e)
+first_found (b ∷ text) (suc n) h e f = rw (ne_eqb b lf (f 0 (omega arith))) (ap suc (first_found text n (omega arith) e (λ k l. f (suc k) (omega arith))))
 
-pub line_longer : (text : List ℕ) (at i : ℕ) → at + i < length text
-    → (leb i (length (line_at text at)) && not (eqb (get_or text (at + i) 0) lf)) ≡ leb (i + 1) (length (line_at text at))
-unfolding line_at
-line_longer text at i h = rw (add-one, ← get_or-drop) (first_longer (drop at text) i (omega (arith, length-drop at text)))
-
--- a place of a line is one from which it goes on to the same end
-first_onward : (text : List ℕ) (n : ℕ) → n ≤ length (first_line text) → n + length (first_line (drop n text)) ≡ length (first_line text)
+first_none : (text : List ℕ) → ((k : ℕ) → k < length text → get_or text k 0 ≡ lf → ⊥) → length text ≡ length (first_line text)
 unfolding first_line
-first_onward text zero h = omega arith
-first_onward [] (suc n) h = absurd (omega arith)
-first_onward (b ∷ text) (suc n) h = at (eqb b lf) (first_onward text n) h
-  where
-    at : (e : Bool) → (n ≤ length (first_line text) → n + length (first_line (drop n text)) ≡ length (first_line text))
-        → suc n ≤ length (cond e [] (b ∷ first_line text)) → suc n + length (first_line (drop n text)) ≡ length (cond e [] (b ∷ first_line text))
-    at true k h = absurd (omega arith)
-    at false k h = omega (arith, k (omega arith))
+first_none [] f = refl
+first_none (b ∷ text) f = rw (ne_eqb b lf (f 0 (omega arith))) (ap suc (first_none text (λ k l. f (suc k) (omega arith))))
 
-pub end_later : (text : List ℕ) (at n : ℕ) → leb n (length (line_at text at)) ≡ true → at + n + length (line_at text (at + n)) ≡ at + length (line_at text at)
+-- where the line at a place ends, by the first LF from there on
+pub end_found : (text : List ℕ) (at n : ℕ) → NoneBefore (Passes (is_byte lf) (drop at text)) 0 (length (drop at text)) n → get_or (drop at text) n 0 ≡ lf
+    → (at + n ≡ at + length (line_at text at)) × (at + n ≤ length text)
 unfolding line_at
-end_later text at n h = omega (arith, rw drop-drop at (first_onward (drop at text) n (leb-true n (length (first_line (drop at text))) h)))
+end_found text at n h e = (
+  ap (λ (k : ℕ). at + k) (first_found (drop at text) n h.high e (λ k l f. h.before k (omega arith) l (eq-eqb _ lf f))),
+  omega (arith, h.high, length-drop at text),
+)
+
+pub end_none : (text : List ℕ) (at : ℕ) → at ≤ length text → Nowhere (Passes (is_byte lf) (drop at text)) 0 (length (drop at text))
+    → length text ≡ at + length (line_at text at)
+unfolding line_at
+end_none text at h f = omega (arith, first_none (drop at text) (λ k l e. f k (omega arith) l (eq-eqb _ lf e)), length-drop at text)
 
 -- a line is what stands from its place up to where it ends, within the text
 first_part : (text : List ℕ) → take (length (first_line text)) text ≡ first_line text
@@ -173,6 +161,24 @@ lines_behind text at h =
     let same : at + suc (length (line_at text at)) ≡ at + length (line_at text at) + 1 = omega arith in
     rw (← next_drop text at, drop-drop, same) at (lines_here text at h)
 
+-- a text by its first line and what is behind that
+pub lines_split : (text : List ℕ) {end next : ℕ} → eqb (length text) 0 ≡ false → end ≡ 0 + length (line_at text 0) → next ≡ line_behind text end
+    → (lines text ≡ take end text ∷ lines (drop next text)) × (end ≤ length text) × (next ≤ length text)
+lines_split text {end} {next} h e f = (
+  lines_here text 0 some_byte ∙ (λ i. part i ∷ lines (drop (behind i) text)),
+  omega (arith, line_within text 0 (omega arith)),
+  omega (arith, next_within text 0, behind),
+)
+  where
+    some_byte : 0 < length text
+    some_byte = let none = eqb-false (length text) 0 h in omega arith
+
+    part : line_at text 0 ≡ take end text
+    part = sym (line_part text 0) ∙ ap (λ (k : ℕ). take k text) (omega arith)
+
+    behind : next_line text 0 ≡ next
+    behind = sym (next_from_end text 0 e f)
+
 -- what a count that has come to `n` at a place tells of the number of lines
 pub record Counted (text : List ℕ) (most n at : ℕ) : Type 0 where
   pub passed : n ≤ at
@@ -190,10 +196,26 @@ counted_more text most n at c h k =
       all = omega (arith, c.all, ap length (lines_here text at h));
     }
 
-pub counted_past : (text : List ℕ) (most n at : ℕ) → Counted text most n at → at < length text → most < n + 1 → n + 1 ≡ count_up_to most text
-unfolding count_up_to
-counted_past text most n at c h k = omega (arith, c.few, c.all, ap length (lines_here text at h))
+-- a text has no more lines than bytes
+pub lines_most : (text : List ℕ) → length (lines text) ≤ length text
+unfolding lines with_byte extend_line
+lines_most [] = omega arith
+lines_most (b ∷ text) = by (eqb b lf) (lines text) (lines_most text)
+  where
+    by : (e : Bool) (rest : List (List ℕ)) → length rest ≤ length text → length (cond e ([] ∷ rest) (extend_line b rest)) ≤ suc (length text)
+    by true rest h = omega arith
+    by false [] h = omega arith
+    by false (line ∷ rest) h = omega arith
 
-pub counted_all : (text : List ℕ) (most n at : ℕ) → Counted text most n at → length text ≤ at → n ≡ count_up_to most text
+-- what a count that has come to `n` tells, with these lines left
+pub record CountedUpTo (text : List ℕ) (most n : ℕ) (rest : List (List ℕ)) : Type 0 where
+  pub few : n ≤ most
+  pub all : n + length rest ≡ length (lines text)
+
+pub count_over : {text : List ℕ} {most n : ℕ} {rest : List (List ℕ)} → CountedUpTo text most n rest → 0 < length rest → most < n + 1 → n + 1 ≡ count_up_to most text
 unfolding count_up_to
-counted_all text most n at c h = omega (arith, c.few, c.all, ap length (lines_past text at h))
+count_over c h k = omega (arith, c.few, c.all)
+
+pub count_all : {text : List ℕ} {most n : ℕ} {rest : List (List ℕ)} → CountedUpTo text most n rest → rest ≡ [] → n ≡ count_up_to most text
+unfolding count_up_to
+count_all c e = omega (arith, c.few, c.all, ap length e)

@@ -1,4 +1,5 @@
 -- Laws of the digits of a number, one by one: the steps of the loop of `number_at` and what it ends in. Assumes nothing.
+use Rattle.std.specs.Prelude.{Some, None}
 use Prim.Native.Nat.{ℕ, ◌+◌, ◌-◌, ◌*◌, ◌≤◌, ◌<◌}
 use native.Mathlib.Numerals.{add-one}
 use native.Mathlib.Omega.{arith}
@@ -12,8 +13,6 @@ use borrow.Author.Tests.{eq-eqb, ne_eqb, le-leb, lt-leb}
 use Rattle.text.proofs.Laws.{isnt}
 use Rattle.json_text.specs.Utf8.{between}
 use Rattle.json_text.specs.Json.{digits, decimal, plain_number, number_at}
-use Rattle.json_text.specs.Access.{digits_of}
-use Rattle.json_text.specs.declared.Digits.TheVariants.{Value, Bad as BadDigits}
 use Rattle.json_text.proofs.ScanLaws.{digits_at, digits_all, plain_some}
 use Rattle.json_text.proofs.Utf8Laws.{within_told}
 
@@ -49,14 +48,14 @@ unfolding plain_number
 plain_over ds h = rw (lt-leb (decimal 0 ds) largest h) (and-false (eqb (length ds) 1 || not (eqb (get_or ds 0 0) 0)))
 
 module _ (line : List ℕ) (at : ℕ) where
-  number_bad : plain_number (digits_at line at) ≡ false → BadDigits ≡ digits_of (number_at line at)
-  unfolding number_at digits_of
+  number_bad : plain_number (digits_at line at) ≡ false → None ≡ (number_at line at)
+  unfolding number_at
   number_bad e = rw e
 
   number_good : (v i : ℕ) → plain_number (digits_at line at) ≡ true → v ≡ decimal 0 (digits_at line at) → i ≡ at + length (digits_at line at)
-      → Value v i ≡ digits_of (number_at line at)
-  unfolding number_at digits_of
-  number_good v i e p q = rw e (λ k. Value (p k) (q k))
+      → (Some (record { value = v; next = i })) ≡ (number_at line at)
+  unfolding number_at
+  number_good v i e p q = rw e (λ k. Some (record { value = (p k); next = (q k) }))
 
   -- the first of some digits
   first_digit : 0 < length (digits_at line at) → (0x30 ≤ get_or line at 0) × (get_or (digits_at line at) 0 0 ≡ get_or line at 0 - 0x30)
@@ -101,7 +100,7 @@ module _ (line : List ℕ) (at v i : ℕ) (r : Reading line at v i) where
         }
 
     -- which is too much
-    pub reading_over : largest < next → BadDigits ≡ digits_of (number_at line at)
+    pub reading_over : largest < next → None ≡ (number_at line at)
     reading_over k =
         number_bad line at (plain_over (digits_at line at) (omega (arith, value_more, decimal_grows next (digits_at line (i + 1)))))
 
@@ -114,7 +113,7 @@ module _ (line : List ℕ) (at v i : ℕ) (r : Reading line at v i) where
     reading_count : i ≡ at + length (digits_at line at)
     reading_count = omega (arith, ap length e)
 
-    pub reading_nothing : i ≡ at → BadDigits ≡ digits_of (number_at line at)
+    pub reading_nothing : i ≡ at → None ≡ (number_at line at)
     reading_nothing k =
         number_bad line at (isnt (plain_number (digits_at line at)) (λ p. omega (arith, reading_count, plain_some (digits_at line at) p)))
 
@@ -128,13 +127,13 @@ module _ (line : List ℕ) (at v i : ℕ) (r : Reading line at v i) where
       plain = plain_by (digits_at line at) (omega (arith, reading_value))
 
       -- a zero in front of others, a digit alone, another digit in front
-      pub reading_zeros : get_or line at 0 ≡ 0x30 → (i - at ≡ 1 → ⊥) → BadDigits ≡ digits_of (number_at line at)
+      pub reading_zeros : get_or line at 0 ≡ 0x30 → (i - at ≡ 1 → ⊥) → None ≡ (number_at line at)
       reading_zeros z m = number_bad line at (plain (ne_eqb (length (digits_at line at)) 1 (λ l. m (omega (arith, reading_count)))) (eq-eqb _ 0 (first.1 ∙ ap (λ (b : ℕ). b - 0x30) z)))
 
-      pub reading_one : i - at ≡ 1 → Value v i ≡ digits_of (number_at line at)
+      pub reading_one : i - at ≡ 1 → (Some (record { value = v; next = i })) ≡ (number_at line at)
       reading_one m = number_good line at v i (plain (eq-eqb (length (digits_at line at)) 1 (omega (arith, reading_count))) refl) reading_value reading_count
 
-      pub reading_other : (get_or line at 0 ≡ 0x30 → ⊥) → Value v i ≡ digits_of (number_at line at)
+      pub reading_other : (get_or line at 0 ≡ 0x30 → ⊥) → (Some (record { value = v; next = i })) ≡ (number_at line at)
       reading_other z =
           number_good line at v i
           (plain refl (ne_eqb (get_or (digits_at line at) 0 0) 0 (λ d. z (omega (arith, first)))) ∙ or-true (eqb (length (digits_at line at)) 1))

@@ -1,13 +1,15 @@
 -- What a line means: RFC 8259 without signs, fractions, exponents, lone surrogates and LF, with numbers up to 18446744073709551615 and
 -- at most 8 brackets open at once; document 01, JSON line.
-use Rattle.std.specs.Prelude.{ℕ, zero, suc, ◌+◌, ◌-◌, ◌*◌, max, Bool, true, false, ◌&&◌, ◌||◌, not, cond, List, [], ◌∷◌, eqb, leb, length, get_or, drop}
-use Rattle.std.proofs.Math.Option.{Option, none, some, bind}
+use Rattle.std.specs.Prelude.{ℕ, zero, suc, ◌+◌, ◌-◌, ◌*◌, max, Bool, true, false, ◌&&◌, ◌||◌, not, cond, List, [], ◌∷◌, eqb, leb, length, get_or, drop, Option, None, Some, option_map}
+use Rattle.std.specs.List.{prefix_len}
+use Rattle.text.specs.Maybe.{bind}
 use Rattle.text.specs.Ascii.{ascii}
 use Rattle.text.specs.Text.{begins}
 use Rattle.json_text.specs.Utf8.{byte_at, between}
 use Rattle.json_text.specs.Strings.{quote, string_at}
+pub use Rattle.json_text.specs.declared.Read.{Read}
 use Rattle.json_text.specs.declared.Separator.{Separator}
-use Rattle.json_text.specs.declared.Separator.TheVariants.{Close, Comma, Neither}
+use Rattle.json_text.specs.declared.Separator.TheVariants.{Close, Comma}
 use Rattle.json_text.specs.declared.Kind.{Kind}
 use Rattle.json_text.specs.declared.Kind.TheVariants.{Number, Text, Array, Object, Word, Blank, Other}
 
@@ -29,11 +31,6 @@ mutual
     no_member : Members
     member : ℕ → List ℕ → ℕ → Json → Members → Members
 
--- what is read, and the place behind it
-pub record Read (What : Type 0) : Type 0 where
-  pub value : What
-  pub next : ℕ
-
 -- this byte stands at this place
 unfoldable pub is_at : List ℕ → ℕ → ℕ → Bool
 is_at line at b = eqb (byte_at line at) b
@@ -44,8 +41,7 @@ is_blank b = eqb b 0x20 || (eqb b 0x09 || eqb b 0x0d)
 
 -- the number of blanks at the front
 unfoldable pub blanks : List ℕ → ℕ
-blanks [] = 0
-blanks (b ∷ s) = cond (is_blank b) (suc (blanks s)) 0
+blanks s = prefix_len is_blank s
 
 -- the place of the first byte that is no blank, from this place on
 unfoldable pub skip_blanks : List ℕ → ℕ → ℕ
@@ -77,47 +73,46 @@ plain_number ds = (eqb (length ds) 1 || not (eqb (get_or ds 0 0) 0)) && leb (dec
 unfoldable pub number_at : List ℕ → ℕ → Option (Read ℕ)
 number_at line at =
     let ds = digits (drop at line) in
-    cond (plain_number ds) (some (record { value = decimal 0 ds; next = at + length ds })) none
+    cond (plain_number ds) (Some (record { value = decimal 0 ds; next = at + length ds })) None
 
 -- the three words; what stands behind one is judged by what may follow a value
 unfoldable pub word_at : List ℕ → ℕ → Option (Read Json)
 word_at line at =
-    cond (begins (ascii "null") (drop at line)) (some (record { value = null; next = at + 4 }))
-    (cond (begins (ascii "true") (drop at line)) (some (record { value = bool true; next = at + 4 }))
-    (cond (begins (ascii "false") (drop at line)) (some (record { value = bool false; next = at + 5 })) none))
+    cond (begins (ascii "null") (drop at line)) (Some (record { value = null; next = at + 4 }))
+    (cond (begins (ascii "true") (drop at line)) (Some (record { value = bool true; next = at + 4 }))
+    (cond (begins (ascii "false") (drop at line)) (Some (record { value = bool false; next = at + 5 })) None))
 
 unfoldable pub text_at : List ℕ → ℕ → Option (Read (List ℕ))
-text_at line at = bind (string_at line at) (λ d. some (record { value = d.text; next = at + 1 + d.size }))
+text_at line at = bind (string_at line at) (λ d. Some (record { value = d.text; next = at + 1 + d.size }))
 
 -- what is read, made into something else
 unfoldable pub read_as : {A B : Type 0} → (A → B) → Option (Read A) → Option (Read B)
-read_as make none = none
-read_as make (some r) = some (record { value = make r.value; next = r.next })
+read_as make o = option_map (λ r. record { value = make r.value; next = r.next }) o
 
 -- what comes behind an item: the closing bracket, a comma with the place of the next item, or neither
-unfoldable pub separator_at : ℕ → List ℕ → ℕ → Separator
+unfoldable pub separator_at : ℕ → List ℕ → ℕ → Option Separator
 separator_at close line at =
     let p = skip_blanks line at in
-    cond (is_at line p close) (Close (p + 1)) (cond (is_at line p 0x2c) (Comma (skip_blanks line (p + 1))) Neither)
+    cond (is_at line p close) (Some (Close (p + 1))) (cond (is_at line p 0x2c) (Some (Comma (skip_blanks line (p + 1)))) None)
 
 module _ {Item Items : Type 0} (none_left : Items) (more : Item → Items → Items) (item : ℕ → Option (Read Item)) (close : ℕ) (line : List ℕ) where
   -- items with commas between them, `most` at the most, up to and with the closing bracket
   unfoldable pub items_at : ℕ → ℕ → Option (Read Items)
-  items_at zero at = none
+  items_at zero at = None
   items_at (suc most) at =
       bind (item at)
       (λ r.
       elim (separator_at close line r.next) [
-        | Close next ↦ some (record { value = more r.value none_left; next = next })
-        | Comma next ↦ read_as (more r.value) (items_at most next)
-        | Neither ↦ none
+        | Some (Close next) ↦ Some (record { value = more r.value none_left; next = next })
+        | Some (Comma next) ↦ read_as (more r.value) (items_at most next)
+        | None ↦ None
       ])
 
   -- what stands behind an opening bracket: a line has no more items than bytes
   unfoldable pub bracket_at : ℕ → Option (Read Items)
   bracket_at at =
       let p = skip_blanks line (at + 1) in
-      elim (is_at line p close) [ true ↦ some (record { value = none_left; next = p + 1 }) | false ↦ items_at (length line) p ]
+      elim (is_at line p close) [ true ↦ Some (record { value = none_left; next = p + 1 }) | false ↦ items_at (length line) p ]
 
 -- an element: its place and its value
 unfoldable pub element_at : (ℕ → Option (Read Json)) → ℕ → Option (Read (ℕ × Json))
@@ -129,7 +124,7 @@ name_at line at =
     bind (text_at line at)
     (λ name.
     let p = skip_blanks line name.next in
-    cond (is_at line p 0x3a) (some (record { value = name.value; next = skip_blanks line (p + 1) })) none)
+    cond (is_at line p 0x3a) (Some (record { value = name.value; next = skip_blanks line (p + 1) })) None)
 
 -- a member: the place of its name, its name, the place of its value, and its value
 unfoldable pub member_at : (ℕ → Option (Read Json)) → List ℕ → ℕ → Option (Read (ℕ × List ℕ × ℕ × Json))
@@ -151,14 +146,14 @@ value_with inner line at =
       | Array ↦ bind inner (λ read. read_as array (array_at read line at))
       | Object ↦ bind inner (λ read. read_as object (object_at read line at))
       | Word ↦ word_at line at
-      | Blank ↦ none
-      | Other ↦ none
+      | Blank ↦ None
+      | Other ↦ None
     ]
 
 -- the value at a place, in which at most `depth` brackets are open at once
 unfoldable pub value_at : ℕ → List ℕ → ℕ → Option (Read Json)
-value_at zero line at = value_with none line at
-value_at (suc depth) line at = value_with (some (value_at depth line)) line at
+value_at zero line at = value_with None line at
+value_at (suc depth) line at = value_with (Some (value_at depth line)) line at
 
 -- "Depth is at most 8 brackets"
 abbrev pub depth_limit : ℕ
@@ -168,7 +163,7 @@ depth_limit = 8
 unfoldable pub line_value : List ℕ → Option Json
 line_value line =
     bind (value_at depth_limit line (skip_blanks line 0))
-    (λ r. cond (eqb (skip_blanks line r.next) (length line)) (some r.value) none)
+    (λ r. cond (eqb (skip_blanks line r.next) (length line)) (Some r.value) None)
 
 -- the length of the longest decoded string, "member names included"
 unfoldable mutual

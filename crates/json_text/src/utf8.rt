@@ -1,17 +1,17 @@
 // UTF-8 as RFC 3629 has it.
-ghost use Rattle.std.specs.Prelude.{◌≡◌, length, drop, take, get_or};
+ghost use Rattle.std.specs.Prelude.{◌≡◌, ◌+◌, ◌≤◌, length, drop, take, get_or};
 ghost use Rattle.json_text.specs.Utf8 as spec;
 
-// The number of bytes of a sequence, by its first byte; 0 where no sequence begins so.
-fn lead_size(a: u8) -> usize
+// The number of bytes of a sequence, by its first byte; none where no sequence begins so.
+fn lead_size(a: u8) -> Option<usize>
     ensures { result ≡ spec.lead_size a }
 {
     match a {
-        0..=0x7f => 1,
-        0xc2..=0xdf => 2,
-        0xe0..=0xef => 3,
-        0xf0..=0xf4 => 4,
-        _ => 0,
+        0..=0x7f => Some(1),
+        0xc2..=0xdf => Some(2),
+        0xe0..=0xef => Some(3),
+        0xf0..=0xf4 => Some(4),
+        _ => None,
     }
 }
 
@@ -41,47 +41,26 @@ fn is_second(a: u8, b: u8) -> bool
     }
 }
 
-// The number of bytes of the well-formed sequence that begins at `at`; 0 where there is none.
-pub fn sequence(line: &[u8], at: usize) -> usize
+// May the bytes behind the first of a sequence of `n` bytes stand there?
+fn is_followed(line: &[u8], at: usize, n: usize) -> bool
+    requires { (1 ≤ n) × (at + n ≤ length line.now) }
+    ensures { result ≡ spec.followed n (drop at line.now) }
+{
+    (n < 2 || is_second(line[at], line[at + 1]))
+        && (n < 3 || is_tail(line[at + 2]))
+        && (n < 4 || is_tail(line[at + 3]))
+}
+
+// The number of bytes of the well-formed sequence that begins at `at`, if there is one.
+pub fn sequence(line: &[u8], at: usize) -> Option<usize>
     ensures { result ≡ spec.sequence (drop at line.now) }
 {
     if line.len() <= at {
-        return 0;
+        return None;
     }
-    let a = line[at];
-    let n = lead_size(a);
-    if line.len() - at < n {
-        return 0;
+    let n = lead_size(line[at])?;
+    if line.len() - at < n || !is_followed(line, at, n) {
+        return None;
     }
-    if n < 2 {
-        return n;
-    }
-    if !is_second(a, line[at + 1]) {
-        return 0;
-    }
-    if n < 3 {
-        return n;
-    }
-    if !is_tail(line[at + 2]) {
-        return 0;
-    }
-    if n < 4 {
-        return n;
-    }
-    if !is_tail(line[at + 3]) {
-        return 0;
-    }
-    n
-}
-
-// How many bytes a code point has.
-pub fn utf8_size(c: u32) -> usize
-    ensures { result ≡ length (spec.utf8 c) }
-{
-    match c {
-        0..=0x7f => 1,
-        0x80..=0x7ff => 2,
-        0x800..=0xffff => 3,
-        _ => 4,
-    }
+    Some(n)
 }

@@ -6,7 +6,7 @@ use native.Mathlib.Omega.{arith}
 use mathlib.Core.Path.{◌≡◌, refl, sym, ap, ◌∙◌}
 use mathlib.Core.Bool.{Bool, true, false, ◌&&◌, ◌||◌, not, cond, or-true}
 use mathlib.Core.List.{List, [], ◌∷◌, ◌++◌, append_assoc}
-use mathlib.Core.Option.{some}
+use Rattle.std.specs.Prelude.{Some}
 use lib.Dec.{eqb, ltb}
 use lib.ListN.{length, get_or, take, length-append}
 use lib.Seq.{take_at}
@@ -174,11 +174,11 @@ module _ (n : ℕ) (rest : List ℕ) (h : n < 18446744073709551616) (e : json.di
       let small = le-leb (json.decimal 0 read) 18446744073709551615 (omega (arith, read_value)) in
       λ i. read_first i && small i
 
-  pub number_read : json.number_at (decimal n ++ rest) 0 ≡ some (record { value = n; next = length (decimal n) })
+  pub number_read : json.number_at (decimal n ++ rest) 0 ≡ Some (record { value = n; next = length (decimal n) })
   unfolding json.number_at
   number_read =
       let next : 0 + length read ≡ length (decimal n) = omega (arith, read_length) in
-      rw read_plain (λ i. some (record { value = read_value i; next = next i }))
+      rw read_plain (λ i. Some (record { value = read_value i; next = next i }))
 
 -- two numbers have two decimals
 pub decimal_one : (m n : ℕ) → m < 10 ^ 20 → n < 10 ^ 20 → decimal m ≡ decimal n → m ≡ n

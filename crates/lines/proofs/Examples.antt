@@ -4,7 +4,8 @@ use Prim.Native.Nat.{ℕ}
 use Prim.Native.String.{String}
 use mathlib.Core.Bool.{Bool, true, ◌&&◌}
 use mathlib.Core.List.{List, [], ◌∷◌, ◌++◌, map}
-use mathlib.Core.Option.{none, some, bind}
+use Rattle.std.specs.Prelude.{None, Some}
+use Rattle.text.specs.Maybe.{bind}
 use mathlib.Core.Path.{◌≡◌, refl}
 use Rattle.text.specs.Ascii.{ascii}
 use Rattle.text.specs.Text.{same, begins, contains, occurs, replace_from, replace}
@@ -79,7 +80,7 @@ unfolding rules_in rules_taken rules_kept text_of
 rules_taken_lem = refl
 
 pub lines_taken : found (text_of (ascii "[1]" ∷ [] ∷ ascii "[\"ended\",1]" ∷ ascii "[\"ended\"]" ∷ [])) (short 0) buffer
-    ≡ some (ascii "[1]") ∷ some [] ∷ none ∷ some (ascii "[\"ended\"]") ∷ []
+    ≡ Some (ascii "[1]") ∷ Some [] ∷ None ∷ Some (ascii "[\"ended\"]") ∷ []
 unfolding find found taken kept text_of
 lines_taken = refl
 

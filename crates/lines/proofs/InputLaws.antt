@@ -7,7 +7,7 @@ use native.Mathlib.Omega.{arith}
 use mathlib.Core.Path.{◌≡◌, refl, sym, ap, ◌∙◌}
 use mathlib.Core.Bool.{Bool, true, false, ◌&&◌, not, cond, true≢false}
 use mathlib.Core.List.{List, [], ◌∷◌, ◌++◌, map, append_assoc, append-nil}
-use mathlib.Core.Option.{Option, none, some}
+use Rattle.std.specs.Prelude.{Option, None, Some}
 use lib.Dec.{eqb, leb}
 use lib.ListN.{length, take, drop, set, length-append, length-set, length-drop, take-append-drop, drop_of_length-le}
 use lib.Seq.{take-suc-set, drop-set-lt, length-take-le, take_at}
@@ -100,7 +100,7 @@ module _ {R : Type 0} (made : List ℕ → Begun → List ℕ → R)
     -- the first bytes of a line stand in the buffer
     goes_on : (line others buffer : List ℕ) (n : ℕ) → unbroken line ≡ true → n + length line ≤ length buffer
         → made (line ++ others) (short n) buffer ≡ made others (short (n + length line)) (with_text n line buffer)
-    goes_on [] others buffer n u h = let none = sym (add-zero n) in λ i. made others (short (none i)) (with_none n buffer i)
+    goes_on [] others buffer n u h = let None = sym (add-zero n) in λ i. made others (short (None i)) (with_none n buffer i)
     goes_on (b ∷ line) others buffer n u h =
         let first = unbroken_first b line u in
         let place : n + 1 + length line ≡ n + suc (length line) = omega arith in
@@ -121,8 +121,8 @@ module _ {R : Type 0} (made : List ℕ → Begun → List ℕ → R)
     line_fits : (line others buffer : List ℕ) → unbroken line ≡ true → length line ≤ length buffer
         → made (line ++ others) (short 0) buffer ≡ made others (short (length line)) (line ++ drop (length line) buffer)
     line_fits line others buffer u h =
-        let none = zero-add (length line) in
-        goes_on line others buffer 0 u (omega arith) ∙ (λ i. made others (short (none i)) (line ++ drop (none i) buffer))
+        let None = zero-add (length line) in
+        goes_on line others buffer 0 u (omega arith) ∙ (λ i. made others (short (None i)) (line ++ drop (None i) buffer))
 
     over-at : (front rest others buffer : List ℕ) (b : ℕ) → unbroken front ≡ true → unbroken (b ∷ rest) ≡ true → length front ≡ length buffer
         → made ((front ++ (b ∷ rest)) ++ others) (short 0) buffer ≡ made others (long (length buffer)) front
@@ -209,8 +209,8 @@ long_last_gathered line buffer u h =
 -- a line that is whole is found, as it stands in the buffer, or not where it is longer than that, and the next one begins
 unfoldable pub find : Taken → List ℕ → (Begun → List (Option (List ℕ))) → List (Option (List ℕ))
 find (Part next) buffer others = others next
-find (Line n) buffer others = some (take n buffer) ∷ others (short 0)
-find LongLine buffer others = none ∷ others (short 0)
+find (Line n) buffer others = Some (take n buffer) ∷ others (short 0)
+find LongLine buffer others = None ∷ others (short 0)
 
 -- the lines that are found in an input, byte by byte
 unfoldable pub found : List ℕ → Begun → List ℕ → List (Option (List ℕ))
@@ -234,7 +234,7 @@ all_unbroken (line ∷ lines) = unbroken line && all_unbroken lines
 
 -- a line, if it has room
 unfoldable pub roomy : ℕ → List ℕ → Option (List ℕ)
-roomy room line = cond (leb (length line) room) (some line) none
+roomy room line = cond (leb (length line) room) (Some line) None
 
 -- the line, and then what stands behind it
 found_line : (line others buffer : List ℕ) (room : ℕ) (rest : List (Option (List ℕ))) → unbroken line ≡ true → length buffer ≡ room
@@ -243,17 +243,17 @@ found_line : (line others buffer : List ℕ) (room : ℕ) (rest : List (Option (
 unfolding roomy found find taken kept
 found_line line others buffer room rest u q behind = by (leb (length line) room) refl
   where
-    by : (b : Bool) → leb (length line) room ≡ b → found (line ++ (10 ∷ others)) (short 0) buffer ≡ cond b (some line) none ∷ rest
+    by : (b : Bool) → leb (length line) room ≡ b → found (line ++ (10 ∷ others)) (short 0) buffer ≡ cond b (Some line) None ∷ rest
     by true e =
         let fits : length line ≤ length buffer = omega (arith, leb-true (length line) room e) in
         let front = take_at line (drop (length line) buffer) (length line) refl in
         let size : length (line ++ drop (length line) buffer) ≡ room = omega (arith, length-append line (drop (length line) buffer), length-drop (length line) buffer) in
         let back = behind (line ++ drop (length line) buffer) size in
-        line_fits found found_step line (10 ∷ others) buffer u fits ∙ (λ i. some (front i) ∷ back i)
+        line_fits found found_step line (10 ∷ others) buffer u fits ∙ (λ i. Some (front i) ∷ back i)
     by false e =
         let over : length buffer < length line = omega (arith, leb-false (length line) room e) in
         let back = behind (take (length buffer) line) (length-take-le (length buffer) line (omega arith) ∙ q) in
-        line_over found found_step line (10 ∷ others) buffer u over ∙ (λ i. none ∷ back i)
+        line_over found found_step line (10 ∷ others) buffer u over ∙ (λ i. None ∷ back i)
 
 -- every line of an input is found, in order
 pub lines_found : (lines : List (List ℕ)) (buffer : List ℕ) (room : ℕ) → all_unbroken lines ≡ true → length buffer ≡ room
@@ -311,7 +311,7 @@ rules_go_on : (text others buffer : List ℕ) (n : ℕ) (fresh : Bool) → no_em
     ≡ rules_in others (RulesPart (rules_begun (n + length text) (fresh_behind fresh text))) (with_text n text buffer)
 unfolding no_empty fresh_behind
 rules_go_on [] others buffer n fresh u h =
-    let none = sym (add-zero n) in λ i. rules_in others (RulesPart (rules_begun (none i) fresh)) (with_none n buffer i)
+    let None = sym (add-zero n) in λ i. rules_in others (RulesPart (rules_begun (None i) fresh)) (with_none n buffer i)
 rules_go_on (b ∷ text) others buffer n fresh u h =
     let here = and_split (not (eqb b 10 && fresh)) (no_empty (eqb b 10) text) u in
     let place : n + 1 + length text ≡ n + suc (length text) = omega arith in
@@ -324,9 +324,9 @@ rules_fit : (text others buffer : List ℕ) → no_empty true text ≡ true → 
     → rules_in (text ++ others) (RulesPart (rules_begun 0 true)) buffer
     ≡ rules_in others (RulesPart (rules_begun (length text) (fresh_behind true text))) (text ++ drop (length text) buffer)
 rules_fit text others buffer u h =
-    let none = zero-add (length text) in
+    let None = zero-add (length text) in
     rules_go_on text others buffer 0 true u (omega arith) ∙
-    (λ i. rules_in others (RulesPart (rules_begun (none i) (fresh_behind true text))) (text ++ drop (none i) buffer))
+    (λ i. rules_in others (RulesPart (rules_begun (None i) (fresh_behind true text))) (text ++ drop (None i) buffer))
 
 rules_whole : (others : List ℕ) (n : ℕ) (buffer : List ℕ) → rules_in others (Whole n) buffer ≡ (Whole n, buffer)
 unfolding rules_in

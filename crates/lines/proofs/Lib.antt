@@ -1,7 +1,6 @@
 pub mod TextLaws
 pub mod ValueLaws
 pub mod ElementLaws
-pub mod ReadingLaws
 pub mod HappeningLaws
 pub mod AskerLaws
 pub mod AskingLaws

@@ -4,62 +4,61 @@ use native.Mathlib.Omega.{arith}
 use mathlib.Core.Path.{◌≡◌, refl, sym, ap, ◌∙◌}
 use mathlib.Core.Bool.{Bool, true, false}
 use mathlib.Core.List.{List}
-use mathlib.Core.Option.{Option, none, some, map}
+use Rattle.std.specs.Prelude.{Option, None, Some}
+use Rattle.std.specs.Option.{option_map}
 use lib.ListN.{length}
 use Rattle.json_text.specs.Strings.{Decoded, string_at}
-use Rattle.json_text.specs.Json.{Json, null, bool, number, text, array, object, Read, word_at, depth_limit}
+use Rattle.json_text.specs.Json.{Json, null, bool, number, text, array, object, word_at, depth_limit}
+use Rattle.json_text.specs.declared.Read.{Read}
 use Rattle.json_text.specs.Access.{number_here, decoded_length, literal_is, literal_of, kind_at}
 use Rattle.json_text.specs.declared.Kind.TheVariants.{Word}
-use Rattle.json_text.specs.declared.Found.{Found}
-use Rattle.json_text.specs.declared.Found.TheVariants.{Is, Absent}
 use Rattle.json_text.proofs.ValueLaws.{All, value_as, value_by}
 use Rattle.json_text.proofs.AccessSteps.{kind_is, word_kind}
 use Rattle.json_text.proofs.AccessLaws.{kind_is_lem, number_of, number_is, text_of, length-is, string_here}
 use Rattle.rule.specs.Rule.{Located, Value, as_text, as_number}
-use Rattle.rule.specs.Places.{found_number}
 use Rattle.rule.proofs.StandsLaws.{ValueStands}
 use Rattle.lines.specs.Call.{as_string, is_null}
 use Rattle.lines.specs.Reading.{is_null_word}
 
 -- the text of a decoded string
 abbrev pub text_of_string : Option Decoded → Option (List ℕ)
-text_of_string o = map (λ (d : Decoded). d.text) o
+text_of_string o = option_map (λ (d : Decoded). d.text) o
 
 module _ (line : List ℕ) where
-  no_string : (at : ℕ) → decoded_length line at ≡ Absent → string_at line at ≡ none
+  no_string : (at : ℕ) → decoded_length line at ≡ None → string_at line at ≡ None
   unfolding decoded_length
   no_string at = by (string_at line at)
     where
-      by : (o : Option Decoded) → elim o as (λ _. Found) [ none ↦ Absent | some d ↦ Is (length d.text) ] ≡ Absent → o ≡ none
-      by none q = refl
-      by (some d) q = let z : ◌≡◌ {A = ℕ} 0 1 = cc in absurd (omega arith)
+      by : (o : Option Decoded) → option_map (λ (d : Decoded). length d.text) o ≡ None → o ≡ None
+      by None q = refl
+      by (Some d) q = let z : ◌≡◌ {A = ℕ} 0 1 = cc in absurd (omega arith)
 
   module _ (v : Value) (s : ValueStands line v) where
     pub string_value : text_of_string (string_at line v.at) ≡ as_string v
     unfolding as_string as_text text_of
     string_value = by v.value refl
       where
-        other : {j : Json} → v.value ≡ j → text_of (λ s. Is (length s)) Absent j ≡ Absent → text_of_string (string_at line v.at) ≡ none
+        other : {j : Json} → v.value ≡ j → text_of (λ s. Some (length s)) None j ≡ None → text_of_string (string_at line v.at) ≡ None
         other e q =
             ap text_of_string
-            (no_string v.at (length-is depth_limit line v.at s.reads ∙ (ap (text_of (λ s. Is (length s)) Absent) e ∙ q)))
+            (no_string v.at (length-is depth_limit line v.at s.reads ∙ (ap (text_of (λ s. Some (length s)) None) e ∙ q)))
 
         by : (j : Json) → v.value ≡ j
             → text_of_string (string_at line v.at)
-            ≡ map (λ (t : Located). t.text)
-            (elim j [ null ↦ none | bool b ↦ none | number n ↦ none | text t ↦ some (record { at = v.at; text = t }) | array es ↦ none | object ms ↦ none ])
+            ≡ option_map (λ (t : Located). t.text)
+            (elim j [ null ↦ None | bool b ↦ None | number n ↦ None | text t ↦ Some (record { at = v.at; text = t }) | array es ↦ None | object ms ↦ None ])
         by null e = other e refl
         by (bool b) e = other e refl
         by (number n) e = other e refl
-        by (text t) e = let h = string_here depth_limit line v.at s.reads e in ap text_of_string h.1 ∙ ap some h.2
+        by (text t) e = let h = string_here depth_limit line v.at s.reads e in ap text_of_string h.1 ∙ ap Some h.2
         by (array es) e = other e refl
         by (object ms) e = other e refl
 
-    pub number_value : number_here line v.at ≡ found_number (as_number v)
-    unfolding number_of found_number as_number
+    pub number_value : number_here line v.at ≡ (as_number v)
+    unfolding number_of as_number
     number_value = number_is depth_limit line v.at s.reads ∙ by v.value
       where
-        by : (j : Json) → number_of j ≡ found_number (as_number (record { at = v.at; value = j }))
+        by : (j : Json) → number_of j ≡ (as_number (record { at = v.at; value = j }))
         by null = refl
         by (bool b) = refl
         by (number n) = refl
@@ -75,8 +74,8 @@ module _ (line : List ℕ) where
         kind = kind_is_lem depth_limit line v.at s.reads
 
         no_word : (o : Option (Read Json)) → All (λ r. (kind_is r.value ≡ Word) × (kind_at line v.at ≡ Word)) o → (kind_at line v.at ≡ Word → ⊥) → is_null_word (literal_of o) ≡ false
-        no_word none h k = unfold literal_of is_null_word in refl
-        no_word (some r) h k = absurd (k h.1)
+        no_word None h k = unfold literal_of is_null_word in refl
+        no_word (Some r) h k = absurd (k h.1)
 
         word : {j : Json} → v.value ≡ j → kind_is j ≡ Word → is_null_word (literal_of (word_at line v.at)) ≡ is_null_word (literal_is j)
         word e q =

@@ -1,7 +1,8 @@
 -- What a line of the program `client` asks, and what is said of it: its input is a first line `[superuser, id, name or null]`, the client's
 -- rules, an empty line and question lines (docs/DECISIONS.md, Programs).
-use Rattle.std.specs.Prelude.{ℕ, cond, List, ltb, length}
-use Rattle.std.proofs.Math.Option.{Option, none, some, bind, map}
+use Rattle.std.specs.Prelude.{ℕ, cond, List, ltb, length, Option, None, Some}
+use Rattle.std.specs.Option.{option_map}
+use Rattle.text.specs.Maybe.{bind}
 use Rattle.text.specs.Ascii.{ascii}
 use Rattle.text.specs.Text.{same}
 use Rattle.json_text.specs.Json.{Json, null, bool, number, text, array, object, Elements, line_value}
@@ -15,11 +16,11 @@ use Rattle.lines.specs.declared.Said.{Said}
 
 -- the elements of an array
 unfoldable pub elements_of : Json → Option Elements
-elements_of v = elim v [ null ↦ none | bool b ↦ none | number n ↦ none | text t ↦ none | array es ↦ some es | object ms ↦ none ]
+elements_of v = elim v [ null ↦ None | bool b ↦ None | number n ↦ None | text t ↦ None | array es ↦ Some es | object ms ↦ None ]
 
 -- a line of at most 2,048 bytes that is an array
 unfoldable pub array_of : List ℕ → Option Elements
-array_of line = cond (ltb line_limit (length line)) none (bind (line_value line) elements_of)
+array_of line = cond (ltb line_limit (length line)) None (bind (line_value line) elements_of)
 
 -- `[superuser, id, name or null]`
 unfoldable pub client_in : Elements → Option Client
@@ -28,12 +29,12 @@ client_in es =
     (bind (bind (nth 0 es) as_bool)
     (λ superuser.
     bind (bind (nth 1 es) as_string)
-    (λ id. map (λ name. record { superuser = superuser; id = id; name = name }) (bind (nth 2 es) (or_null as_string)))))
+    (λ id. option_map (λ name. record { superuser = superuser; id = id; name = name }) (bind (nth 2 es) (or_null as_string)))))
 
 -- `["subscribe",qos,topic]`
 unfoldable pub subscribe_in : Elements → Option Question
 subscribe_in es =
-    having 3 es (bind (bind (nth 1 es) as_number) (λ qos. map (λ topic. subscribe qos topic) (bind (nth 2 es) as_string)))
+    having 3 es (bind (bind (nth 1 es) as_number) (λ qos. option_map (λ topic. subscribe qos topic) (bind (nth 2 es) as_string)))
 
 -- `["publish",qos,retain,disconnect,topic]`
 unfoldable pub publish_in : Elements → Option Question
@@ -44,11 +45,11 @@ publish_in es =
     bind (bind (nth 2 es) as_bool)
     (λ retain.
     bind (bind (nth 3 es) as_bool)
-    (λ disconnect. map (λ topic. publish qos retain disconnect topic) (bind (nth 4 es) as_string)))))
+    (λ disconnect. option_map (λ topic. publish qos retain disconnect topic) (bind (nth 4 es) as_string)))))
 
 -- the two words, exact
 unfoldable pub question_by : List ℕ → Elements → Option Question
-question_by word es = cond (same word (ascii "subscribe")) (subscribe_in es) (cond (same word (ascii "publish")) (publish_in es) none)
+question_by word es = cond (same word (ascii "subscribe")) (subscribe_in es) (cond (same word (ascii "publish")) (publish_in es) None)
 
 unfoldable pub question_in : Elements → Option Question
 question_in es = bind (bind (nth 0 es) as_string) (λ word. question_by word es)
@@ -67,12 +68,12 @@ reply_said (decides d) = decision_said d
 
 -- a line that is no question, and a first line that is no client: error 5, line 0
 unfoldable pub question_said : Client → List ℕ → Option Question → Said
-question_said c rules none = refused_at 5 0
-question_said c rules (some q) = reply_said (ask c rules q)
+question_said c rules None = refused_at 5 0
+question_said c rules (Some q) = reply_said (ask c rules q)
 
 unfoldable pub asked_by : Option Client → List ℕ → Option Question → Said
-asked_by none rules question = refused_at 5 0
-asked_by (some c) rules question = question_said c rules question
+asked_by None rules question = refused_at 5 0
+asked_by (Some c) rules question = question_said c rules question
 
 -- what is said of a line, after this first line and these rules
 unfoldable pub client_said : List ℕ → List ℕ → List ℕ → Said

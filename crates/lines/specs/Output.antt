@@ -1,15 +1,11 @@
 -- A line of output: document 01, Marked examples, "Output: event number, word .., deciding rule from 1, or 0; after error the number";
 -- "Refused rules print only `0 error`, the number and the line, 0 if none".
-use Rattle.std.specs.Prelude.{ℕ, zero, suc, ◌+◌, ◌/◌, ◌%◌, cond, List, [], ◌∷◌, ◌++◌, ltb, length}
+use Rattle.std.specs.Prelude.{ℕ, zero, suc, ◌+◌, ◌/◌, ◌%◌, cond, List, [], ◌∷◌, ◌++◌, ltb, length, Option, Some, None}
 use Rattle.text.specs.Ascii.{ascii}
 use Rattle.text.specs.Text.{fits_at}
-use Rattle.json_text.specs.declared.Found.{Found}
-use Rattle.json_text.specs.declared.Found.TheVariants.{Is, Absent}
 use Rattle.lines.specs.declared.Word.{Word}
 use Rattle.lines.specs.declared.Word.TheVariants.{Done, Kept, Allow, Super, Refuse, Drop, NoDecision, Error}
 use Rattle.lines.specs.declared.Said.{Said}
-use Rattle.lines.specs.declared.Put.{Put}
-use Rattle.lines.specs.declared.Put.TheVariants.{End, NoRoom}
 
 -- a number in decimal, without leading zeros: its last digits, where it has more than so many
 unfoldable pub decimal_up_to : ℕ → ℕ → List ℕ
@@ -35,9 +31,9 @@ abbrev pub blank : List ℕ
 blank = 32 ∷ []
 
 -- the line that an error is of, where it has one
-unfoldable pub line_text : Found → List ℕ
-line_text Absent = []
-line_text (Is n) = blank ++ decimal n
+unfoldable pub line_text : Option ℕ → List ℕ
+line_text None = []
+line_text (Some n) = blank ++ decimal n
 
 -- "event number, word .., deciding rule from 1, or 0; after error the number": the line of output, its LF behind it
 unfoldable pub output_line : ℕ → Said → List ℕ
@@ -45,5 +41,5 @@ output_line n said =
     decimal n ++ (blank ++ (word_text said.word ++ (blank ++ (decimal said.number ++ (line_text said.line ++ (10 ∷ []))))))
 
 -- the place behind a text that is put at a place of a buffer, if it has room there
-unfoldable pub put_at : ℕ → List ℕ → List ℕ → Put
-put_at at t buffer = cond (fits_at at t buffer) (End (at + length t)) NoRoom
+unfoldable pub put_at : ℕ → List ℕ → List ℕ → Option ℕ
+put_at at t buffer = cond (fits_at at t buffer) (Some (at + length t)) None

@@ -1,107 +1,96 @@
 -- What the functions that read a line answer, by the places of its elements.
-use Rattle.std.specs.Prelude.{ℕ, Bool, true, false, ◌&&◌, not, cond, List, ltb, leb, length}
-use Rattle.std.proofs.Math.Option.{Option, none}
+use Rattle.std.specs.Prelude.{ℕ, ◌≡◌, Bool, true, false, ◌&&◌, not, cond, List, ltb, leb, length, Option, None, Some, Result, Ok, Err}
 use Rattle.text.specs.Ascii.{ascii}
 use Rattle.json_text.specs.Strings.{Decoded, string_at}
-use Rattle.json_text.specs.Json.{is_at, skip_blanks, word_at, line_value}
+use Rattle.json_text.specs.Json.{array, Elements, is_at, skip_blanks, word_at, line_value}
 use Rattle.json_text.specs.Access.{string_is, literal_of, copied, is_document}
 use Rattle.json_text.specs.declared.Literal.{Literal}
-use Rattle.json_text.specs.declared.Literal.TheVariants.{Null, True, False, Bad}
-use Rattle.json_text.specs.declared.Place.{Place}
-use Rattle.json_text.specs.declared.Place.TheVariants.{At, Nowhere}
-use Rattle.json_text.specs.declared.Found.{Found}
-use Rattle.json_text.specs.declared.Found.TheVariants.{Is, Absent}
-use Rattle.json_text.specs.declared.Truth.{Truth}
-use Rattle.json_text.specs.declared.Truth.TheVariants.{Holds, Unknown}
-use Rattle.json_text.specs.declared.Copied.{Copied}
-use Rattle.json_text.specs.declared.Copied.TheVariants.{Length, TooLong, NoText}
+use Rattle.json_text.specs.declared.Literal.TheVariants.{Null, True, False}
 use Rattle.rule.specs.Limits.{line_limit}
 use Rattle.rule.specs.Members.{number_from, truth_from}
-use Rattle.rule.specs.declared.Given.{Given}
-use Rattle.rule.specs.declared.Given.TheVariants.{Absent as NotGiven, Length as GivenTo}
-use Rattle.rule.specs.declared.Protocol.TheVariants.{Any, Is as ProtocolIs}
+use Rattle.reader.specs.Reader.{fields_here}
 use Rattle.reader.specs.declared.Fields.{Fields}
 use Rattle.lines.specs.declared.Form.{Form}
-use Rattle.lines.specs.declared.Form.TheVariants.{Connect, Subscribe, Publish, Connected, Disconnected, Ended, Unknown}
-use Rattle.lines.specs.declared.GivenRead.{GivenRead}
-use Rattle.lines.specs.declared.GivenRead.TheVariants.{Is as GivenIs, Bad as BadGiven}
-use Rattle.lines.specs.declared.ProtocolRead.{ProtocolRead}
-use Rattle.lines.specs.declared.ProtocolRead.TheVariants.{Is as ReadProtocol, Bad as BadProtocol}
-use Rattle.lines.specs.declared.HeaderRead.{HeaderRead}
-use Rattle.lines.specs.declared.HeaderRead.TheVariants.{Client as ClientIs, Bad as BadHeader}
-use Rattle.lines.specs.declared.AskerRead.{AskerRead}
-use Rattle.lines.specs.declared.AskerRead.TheVariants.{Asker as AskerIs, Bad as BadAsker}
+use Rattle.lines.specs.declared.Form.TheVariants.{Connect, Subscribe, Publish, Connected, Disconnected, Ended}
+use Rattle.json_text.specs.declared.DecodeError.TheVariants.{NoText, TooLong}
+use Rattle.lines.specs.declared.Asker.{Asker}
+use Rattle.lines.specs.declared.Header.{Header}
+use Rattle.json_text.specs.declared.DecodeError.{DecodeError}
+
+-- of every array that the line has, if these are the places of its elements
+abbrev pub EachArray : List ℕ → Fields → (Elements → Type 0) → Type 0
+EachArray line f holds = (es : Elements) → line_value line ≡ Some (array es) → f ≡ fields_here line → holds es
 
 -- the string at a place, if there is one
-unfoldable pub string_from : List ℕ → Place → Option Decoded
-string_from line Nowhere = none
-string_from line (At p) = string_at line p
+unfoldable pub string_from : List ℕ → Option ℕ → Option Decoded
+string_from line None = None
+string_from line (Some p) = string_at line p
 
 -- is it this word?
-unfoldable pub word_from : List ℕ → Place → List ℕ → Bool
-word_from line Nowhere word = false
-word_from line (At p) word = string_is line p word
+unfoldable pub word_from : List ℕ → Option ℕ → List ℕ → Bool
+word_from line None word = false
+word_from line (Some p) word = string_is line p word
 
-unfoldable pub form_here : List ℕ → Place → Form
+unfoldable pub form_here : List ℕ → Option ℕ → Option Form
 form_here line at =
-    cond (word_from line at (ascii "connect")) Connect
-    (cond (word_from line at (ascii "subscribe")) Subscribe
-    (cond (word_from line at (ascii "publish")) Publish
-    (cond (word_from line at (ascii "connected")) Connected
-    (cond (word_from line at (ascii "disconnected")) Disconnected (cond (word_from line at (ascii "ended")) Ended Unknown)))))
+    cond (word_from line at (ascii "connect")) (Some Connect)
+    (cond (word_from line at (ascii "subscribe")) (Some Subscribe)
+    (cond (word_from line at (ascii "publish")) (Some Publish)
+    (cond (word_from line at (ascii "connected")) (Some Connected)
+    (cond (word_from line at (ascii "disconnected")) (Some Disconnected) (cond (word_from line at (ascii "ended")) (Some Ended) None)))))
 
 -- does `null` stand at a place?
-unfoldable pub is_null_word : Literal → Bool
-is_null_word Null = true
-is_null_word True = false
-is_null_word False = false
-is_null_word Bad = false
+unfoldable pub is_null_word : Option Literal → Bool
+is_null_word (Some Null) = true
+is_null_word (Some True) = false
+is_null_word (Some False) = false
+is_null_word None = false
 
-unfoldable pub null_from : List ℕ → Place → Bool
-null_from line Nowhere = false
-null_from line (At p) = is_null_word (literal_of (word_at line p))
+unfoldable pub null_from : List ℕ → Option ℕ → Bool
+null_from line None = false
+null_from line (Some p) = is_null_word (literal_of (word_at line p))
 
 -- a text or null, decoded into a buffer of `room` bytes
-unfoldable pub given_by : Copied → Bool → GivenRead
-given_by (Length n) is_null = GivenIs (GivenTo n)
-given_by TooLong is_null = BadGiven
-given_by NoText is_null = cond is_null (GivenIs NotGiven) BadGiven
+unfoldable pub given_by : Result ℕ DecodeError → Bool → Option (Option ℕ)
+given_by (Ok n) is_null = Some (Some n)
+given_by (Err TooLong) is_null = None
+given_by (Err NoText) is_null = cond is_null (Some None) None
 
-unfoldable pub given_from : ℕ → List ℕ → Place → GivenRead
+unfoldable pub given_from : ℕ → List ℕ → Option ℕ → Option (Option ℕ)
 given_from room line at = given_by (copied room (string_from line at)) (null_from line at)
 
 -- an earlier answer's code: a number, or null
-unfoldable pub earlier_from : List ℕ → Place → Found
-earlier_from line at = cond (null_from line at) (Is 0) (number_from line at)
+unfoldable pub earlier_from : List ℕ → Option ℕ → Option ℕ
+earlier_from line at = cond (null_from line at) (Some 0) (number_from line at)
 
 -- a protocol: a number up to 255, or null
-unfoldable pub protocol_by : Found → ProtocolRead
-protocol_by Absent = BadProtocol
-protocol_by (Is n) = cond (leb n 255) (ReadProtocol (ProtocolIs n)) BadProtocol
+unfoldable pub protocol_by : Option ℕ → Option (Option ℕ)
+protocol_by None = None
+protocol_by (Some n) = cond (leb n 255) (Some (Some n)) None
 
-unfoldable pub protocol_from : List ℕ → Place → ProtocolRead
-protocol_from line at = cond (null_from line at) (ReadProtocol Any) (protocol_by (number_from line at))
+unfoldable pub protocol_from : List ℕ → Option ℕ → Option (Option ℕ)
+protocol_from line at = cond (null_from line at) (Some None) (protocol_by (number_from line at))
 
 -- who asks, if all that is read of him is right
-unfoldable pub with_protocol : ℕ → ℕ → Given → Given → Given → ProtocolRead → AskerRead
-with_protocol earlier id name password address BadProtocol = BadAsker
-with_protocol earlier id name password address (ReadProtocol p) =
-    AskerIs (record { earlier = earlier; id = id; name = name; password = password; address = address; protocol = p })
+unfoldable pub with_protocol : ℕ → ℕ → Option ℕ → Option ℕ → Option ℕ → Option (Option ℕ) → Option Asker
+with_protocol earlier id name password address None = None
+with_protocol earlier id name password address (Some p) =
+    Some (record { earlier = earlier; id = id; name = name; password = password; address = address; protocol = p })
 
-unfoldable pub with_texts : ℕ → ℕ → GivenRead → GivenRead → GivenRead → ProtocolRead → AskerRead
-with_texts earlier id BadGiven password address p = BadAsker
-with_texts earlier id (GivenIs name) BadGiven address p = BadAsker
-with_texts earlier id (GivenIs name) (GivenIs password) BadGiven p = BadAsker
-with_texts earlier id (GivenIs name) (GivenIs password) (GivenIs address) p = with_protocol earlier id name password address p
+unfoldable pub with_texts : ℕ → ℕ → Option (Option ℕ) → Option (Option ℕ) → Option (Option ℕ) → Option (Option ℕ) → Option Asker
+with_texts earlier id None password address p = None
+with_texts earlier id (Some name) None address p = None
+with_texts earlier id (Some name) (Some password) None p = None
+with_texts earlier id (Some name) (Some password) (Some address) p = with_protocol earlier id name password address p
 
-unfoldable pub with_id : Found → Copied → GivenRead → GivenRead → GivenRead → ProtocolRead → AskerRead
-with_id Absent id name password address p = BadAsker
-with_id (Is earlier) (Length n) name password address p = with_texts earlier n name password address p
-with_id (Is earlier) TooLong name password address p = BadAsker
-with_id (Is earlier) NoText name password address p = BadAsker
+unfoldable pub with_id : Option ℕ → Result ℕ DecodeError → Option (Option ℕ) → Option (Option ℕ) → Option (Option ℕ) → Option (Option ℕ) → Option Asker
+with_id None id name password address p = None
+with_id (Some earlier) (Ok n) name password address p = with_texts earlier n name password address p
+with_id (Some earlier) (Err TooLong) name password address p = None
+with_id (Some earlier) (Err NoText) name password address p = None
 
 -- with buffers of so many bytes for the id, the name, the password and the address
-unfoldable pub asker_here : ℕ → ℕ → ℕ → ℕ → List ℕ → Fields → AskerRead
+unfoldable pub asker_here : ℕ → ℕ → ℕ → ℕ → List ℕ → Fields → Option Asker
 asker_here ids names passwords addresses line f =
     with_id
     (earlier_from line f.second)
@@ -116,22 +105,22 @@ unfoldable pub is_array_line : List ℕ → Bool
 is_array_line line = not (ltb line_limit (length line)) && (is_document (line_value line) && is_at line (skip_blanks line 0) 0x5b)
 
 -- the client of a first line, if all that is read of it is right and nothing stands behind it
-unfoldable pub nothing_at : Place → HeaderRead → HeaderRead
-nothing_at Nowhere h = h
-nothing_at (At p) h = BadHeader
+unfoldable pub nothing_at : Option ℕ → Option Header → Option Header
+nothing_at None h = h
+nothing_at (Some p) h = None
 
-unfoldable pub with_name : Bool → ℕ → GivenRead → HeaderRead
-with_name superuser id BadGiven = BadHeader
-with_name superuser id (GivenIs name) = ClientIs superuser id name
+unfoldable pub with_name : Bool → ℕ → Option (Option ℕ) → Option Header
+with_name superuser id None = None
+with_name superuser id (Some name) = Some (record { superuser = superuser; id = id; name = name })
 
-unfoldable pub with_truth : Truth → Copied → GivenRead → HeaderRead
-with_truth Unknown id name = BadHeader
-with_truth (Holds superuser) (Length n) name = with_name superuser n name
-with_truth (Holds superuser) TooLong name = BadHeader
-with_truth (Holds superuser) NoText name = BadHeader
+unfoldable pub with_truth : Option Bool → Result ℕ DecodeError → Option (Option ℕ) → Option Header
+with_truth None id name = None
+with_truth (Some superuser) (Ok n) name = with_name superuser n name
+with_truth (Some superuser) (Err TooLong) name = None
+with_truth (Some superuser) (Err NoText) name = None
 
 -- with buffers of so many bytes for the id and the name
-unfoldable pub header_here : ℕ → ℕ → List ℕ → Fields → HeaderRead
+unfoldable pub header_here : ℕ → ℕ → List ℕ → Fields → Option Header
 header_here ids names line f =
     nothing_at
     f.fourth

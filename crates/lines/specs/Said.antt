@@ -1,7 +1,5 @@
 -- What is said of a line, and what it does to the store: document 01, Marked examples (Output).
-use Rattle.std.specs.Prelude.{ℕ, Bool, cond, List}
-use Rattle.std.proofs.Math.Option.{Option, none, some}
-use Rattle.json_text.specs.declared.Found.TheVariants.{Is, Absent}
+use Rattle.std.specs.Prelude.{ℕ, Bool, cond, List, Option, None, Some}
 use Rattle.store.specs.View.{view}
 use Rattle.events.specs.Event.{cause, after}
 use Rattle.questions.specs.Question.{Decision, kept, connects, subscribes, publishes, not_authorized, unspecified_error, Reply, refuses, decides}
@@ -13,11 +11,11 @@ use Rattle.lines.specs.declared.Said.{Said}
 
 -- a word with the deciding rule's number, or with that of an error
 unfoldable pub says : Word → ℕ → Said
-says word n = record { word = word; number = n; line = Absent }
+says word n = record { word = word; number = n; line = None }
 
 -- an error with its number and its line: "Refused rules print only `0 error`, the number and the line, 0 if none"
 unfoldable pub refused_at : ℕ → ℕ → Said
-refused_at number line = record { word = Error; number = number; line = Is line }
+refused_at number line = record { word = Error; number = number; line = Some line }
 
 -- "A malformed event line .. is error 5"
 unfoldable pub malformed : Said
@@ -29,8 +27,8 @@ connected rule superuser = says (cond superuser Super Allow) rule
 
 -- "`drop` a refused publish with the disconnect flag"
 unfoldable pub refused_with : ℕ → Option Bool → Said
-refused_with rule none = says Refuse rule
-refused_with rule (some disconnect) = says (cond disconnect Drop Refuse) rule
+refused_with rule None = says Refuse rule
+refused_with rule (Some disconnect) = says (cond disconnect Drop Refuse) rule
 
 -- "word (done, kept, allow, super, refuse, drop, error), deciding rule from 1, or 0; after error the number"
 unfoldable pub decision_said : Decision → Said
@@ -46,19 +44,19 @@ reply_said (refuses number place) = says Error number
 reply_said (decides d) = decision_said d
 
 unfoldable pub cause_said : Option ℕ → Said
-cause_said none = says Done 0
-cause_said (some number) = says Error number
+cause_said None = says Done 0
+cause_said (Some number) = says Error number
 
 unfoldable pub call_said : Option Call → List ℕ → Said
-call_said none s = malformed
-call_said (some (happens e)) s = cause_said (cause e (view s))
-call_said (some (asks q)) s = reply_said (ask q s)
+call_said None s = malformed
+call_said (Some (happens e)) s = cause_said (cause e (view s))
+call_said (Some (asks q)) s = reply_said (ask q s)
 
 -- only an event changes the store
 unfoldable pub call_done : Option Call → List ℕ → List ℕ
-call_done none s = s
-call_done (some (happens e)) s = after e s
-call_done (some (asks q)) s = s
+call_done None s = s
+call_done (Some (happens e)) s = after e s
+call_done (Some (asks q)) s = s
 
 -- what is said of a line, and the store after it
 unfoldable pub line_said : List ℕ → List ℕ → Said

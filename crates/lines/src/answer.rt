@@ -1,5 +1,6 @@
 // An event line of `decide`: its call, and what came of it.
 ghost use Rattle.std.specs.Prelude.{◌≡◌};
+ghost use Rattle.std.specs.Option.{unwrap_or};
 ghost use Rattle.lines.specs.Said as said;
 
 use crate::asking::{ask_connect, ask_publish, ask_subscribe};
@@ -11,26 +12,29 @@ use json_text::values::is_document;
 use reader::read_fields;
 use rule::LINE;
 
-// What is said of the line, on this store; an event changes the store, or, refused, leaves every byte.
-pub fn answer(store: &mut [u8], line: &[u8]) -> Said
-    ensures value { result ≡ said.line_said line.now store.old }
+// What is said of the line, if it is well formed.
+fn said_of(store: &mut [u8], line: &[u8]) -> Option<Said>
+    ensures value { unwrap_or result said.malformed ≡ said.line_said line.now store.old }
     ensures store_after { store.new ≡ said.line_done line.now store.old }
 {
-    if LINE < line.len() {
-        return malformed();
-    }
-    if !is_document(line) {
-        return malformed();
+    if LINE < line.len() || !is_document(line) {
+        return None;
     }
     let f = read_fields(line);
-    let word = f.first;
-    match form(line, word) {
+    match form(line, f.first)? {
         Form::Connect => ask_connect(store, line, f),
         Form::Subscribe => ask_subscribe(store, line, f),
         Form::Publish => ask_publish(store, line, f),
         Form::Connected => on_connected(store, line, f),
         Form::Disconnected => on_disconnected(store, line, f),
         Form::Ended => on_ended(store, line, f),
-        Form::Unknown => malformed(),
     }
+}
+
+// What is said of the line, on this store; an event changes the store, or, refused, leaves every byte.
+pub fn answer(store: &mut [u8], line: &[u8]) -> Said
+    ensures value { result ≡ said.line_said line.now store.old }
+    ensures store_after { store.new ≡ said.line_done line.now store.old }
+{
+    said_of(store, line).unwrap_or(malformed())
 }

@@ -1,117 +1,125 @@
 // What is at an element of a line: a word, a text, a number, or `null`. Its place is one that `reader` found.
 ghost use Rattle.std.specs.Prelude.{◌≡◌, length};
 ghost use Rattle.json_text.specs.Access.{copied, decoded_into};
+ghost use Rattle.std.specs.Option.{option_copied};
+ghost use Rattle.authinfo.specs.Given.{given};
 ghost use Rattle.lines.specs.Reading as spec;
 
-use crate::{Form, GivenRead, ProtocolRead};
+use crate::Form;
 use json_text::strings::{decode, string_is};
 use json_text::values::literal_at;
-use json_text::{Copied, Found, Literal, Place};
+use json_text::{DecodeError, Literal};
 use rule::listed::number_at;
-use rule::{Given, Protocol};
+use text::front;
 
 const PROTOCOL: u64 = 255;
 
 // Is it this word that stands there?
-fn is_word(line: &[u8], at: Place, word: &[u8]) -> bool
+#[tactic(auto, unfolding(crate::specs::Reading::word_from))]
+fn is_word(line: &[u8], at: Option<usize>, word: &[u8]) -> bool
     ensures { result ≡ spec.word_from line.now at word.now }
 {
     match at {
-        Place::At(p) => string_is(line, p, word),
-        Place::Nowhere => false,
+        Some(p) => string_is(line, p, word),
+        None => false,
     }
 }
 
-// The form of a line, by its word.
-pub fn form(line: &[u8], at: Place) -> Form
+// The form of a line, by its word, if it is one of the six.
+#[tactic(auto, unfolding(crate::specs::Reading::form_here))]
+pub fn form(line: &[u8], at: Option<usize>) -> Option<Form>
     ensures { result ≡ spec.form_here line.now at }
 {
     if is_word(line, at, b"connect") {
-        return Form::Connect;
+        return Some(Form::Connect);
     }
     if is_word(line, at, b"subscribe") {
-        return Form::Subscribe;
+        return Some(Form::Subscribe);
     }
     if is_word(line, at, b"publish") {
-        return Form::Publish;
+        return Some(Form::Publish);
     }
     if is_word(line, at, b"connected") {
-        return Form::Connected;
+        return Some(Form::Connected);
     }
     if is_word(line, at, b"disconnected") {
-        return Form::Disconnected;
+        return Some(Form::Disconnected);
     }
     if is_word(line, at, b"ended") {
-        return Form::Ended;
+        return Some(Form::Ended);
     }
-    Form::Unknown
+    None
 }
 
 // Does `null` stand there?
-fn is_null(line: &[u8], at: Place) -> bool
+#[tactic(auto, unfolding(crate::specs::Reading::null_from, crate::specs::Reading::is_null_word))]
+fn is_null(line: &[u8], at: Option<usize>) -> bool
     ensures { result ≡ spec.null_from line.now at }
 {
-    let Place::At(p) = at else {
-        return false;
-    };
-    match literal_at(line, p) {
-        Literal::Null => true,
-        _ => false,
+    match at {
+        Some(p) => matches!(literal_at(line, p), Some(Literal::Null)),
+        None => false,
     }
 }
 
 // The text that stands there, decoded to the front of the buffer.
-pub fn text_at(line: &[u8], at: Place, buffer: &mut [u8]) -> Copied
+#[tactic(auto, unfolding(crate::specs::Reading::string_from, json_text::specs::Access::copied, json_text::specs::Access::decoded_into))]
+pub fn text_at(line: &[u8], at: Option<usize>, buffer: &mut [u8]) -> Result<usize, DecodeError>
     ensures value { result ≡ copied (length buffer.old) (spec.string_from line.now at) }
     ensures buffer_after { buffer.new ≡ decoded_into buffer.old (spec.string_from line.now at) }
 {
     match at {
-        Place::At(p) => decode(line, p, buffer),
-        Place::Nowhere => Copied::NoText,
+        Some(p) => decode(line, p, buffer),
+        None => Err(DecodeError::NoText),
     }
 }
 
 // The text or `null`.
-pub fn given_at(line: &[u8], at: Place, buffer: &mut [u8]) -> GivenRead
+#[tactic(auto, unfolding(crate::specs::Reading::given_from, crate::specs::Reading::given_by))]
+pub fn given_at(line: &[u8], at: Option<usize>, buffer: &mut [u8]) -> Option<Option<usize>>
     ensures value { result ≡ spec.given_from (length buffer.old) line.now at }
     ensures buffer_after { buffer.new ≡ decoded_into buffer.old (spec.string_from line.now at) }
 {
     match text_at(line, at, buffer) {
-        Copied::Length(n) => GivenRead::Is(Given::Length(n)),
-        Copied::TooLong => GivenRead::Bad,
-        Copied::NoText => {
-            if is_null(line, at) {
-                return GivenRead::Is(Given::Absent);
-            }
-            GivenRead::Bad
-        }
+        Ok(n) => Some(Some(n)),
+        Err(DecodeError::NoText) if is_null(line, at) => Some(None),
+        Err(DecodeError::NoText | DecodeError::TooLong) => None,
     }
 }
 
 // An earlier answer's code, or `null`, which is none.
-pub fn earlier_at(line: &[u8], at: Place) -> Found
+#[tactic(auto, unfolding(crate::specs::Reading::earlier_from))]
+pub fn earlier_at(line: &[u8], at: Option<usize>) -> Option<u64>
     ensures { result ≡ spec.earlier_from line.now at }
 {
     if is_null(line, at) {
-        return Found::Is(0);
+        return Some(0);
     }
     number_at(line, at)
 }
 
 // A protocol up to 255, or `null`.
-pub fn protocol_at(line: &[u8], at: Place) -> ProtocolRead
+#[tactic(auto, unfolding(crate::specs::Reading::protocol_from, crate::specs::Reading::protocol_by))]
+pub fn protocol_at(line: &[u8], at: Option<usize>) -> Option<Option<u8>>
     ensures { result ≡ spec.protocol_from line.now at }
 {
     if is_null(line, at) {
-        return ProtocolRead::Is(Protocol::Any);
+        return Some(None);
     }
-    match number_at(line, at) {
-        Found::Absent => ProtocolRead::Bad,
-        Found::Is(n) => {
-            if PROTOCOL < n {
-                return ProtocolRead::Bad;
-            }
-            ProtocolRead::Is(Protocol::Is(n as u8))
-        }
+    let n = number_at(line, at)?;
+    if PROTOCOL < n {
+        return None;
+    }
+    Some(Some(n as u8))
+}
+
+// The text of this length at the front of its buffer, where there is one.
+#[tactic(auto, unfolding(authinfo::specs::Given::given))]
+pub fn given_in<'a>(length: Option<usize>, buffer: &'a [u8]) -> Option<&'a [u8]>
+    ensures { option_copied result ≡ given length buffer.now }
+{
+    match length {
+        Some(n) => Some(front(buffer, n)),
+        None => None,
     }
 }

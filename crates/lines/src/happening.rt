@@ -1,95 +1,74 @@
 // The three events of a line.
 ghost use Rattle.std.specs.Prelude.{◌≡◌, ◌≤◌, length};
-ghost use Rattle.std.proofs.Math.Option.{some};
-ghost use Rattle.json_text.specs.Json.{array, Elements, line_value};
-ghost use Rattle.reader.specs.Reader.{fields_here};
+ghost use Rattle.std.specs.Option.{unwrap_or};
 ghost use Rattle.rule.specs.Limits.{line_limit};
 ghost use Rattle.events.specs.Event as event;
 ghost use Rattle.lines.specs.Call as call;
 ghost use Rattle.lines.specs.Said as said;
+ghost use Rattle.lines.specs.Reading as spec;
 
-use crate::elements::{given_at, text_at};
-use crate::output::{malformed, refused, says};
-use crate::{GivenRead, Said, Word};
-use events::EventAnswer;
+use crate::elements::{given_at, given_in, text_at};
+use crate::output::{refused, says};
+use crate::{Said, Word};
 use events::connecting::connected;
 use events::leaving::{disconnected, ended};
-use json_text::{Copied, Found, Place};
 use reader::Fields;
-use rule::LINE;
 use rule::listed::number_at;
+use rule::{LINE, Refusal};
+use text::front;
 
-fn event_said(answer: EventAnswer) -> Said
+#[tactic(auto, unfolding(crate::specs::Said::cause_said, events::specs::Event::says))]
+fn event_said(answer: Result<(), Refusal>) -> Said
     ensures { result ≡ said.cause_said (event.says answer) }
 {
     match answer {
-        EventAnswer::Done => says(Word::Done, 0),
-        EventAnswer::Refused(cause) => refused(cause),
+        Ok(()) => says(Word::Done, 0),
+        Err(cause) => refused(cause),
     }
 }
 
 // A connected line.
-pub(crate) fn on_connected(store: &mut [u8], line: &[u8], f: Fields) -> Said
+pub(crate) fn on_connected(store: &mut [u8], line: &[u8], f: Fields) -> Option<Said>
     requires { length line.now ≤ line_limit }
-    ensures value { (es : Elements) → line_value line.now ≡ some (array es) → f ≡ fields_here line.now → result ≡ said.call_said (call.connected_in es) store.old }
-    ensures store_after { (es : Elements) → line_value line.now ≡ some (array es) → f ≡ fields_here line.now → store.new ≡ said.call_done (call.connected_in es) store.old }
+    ensures value { spec.EachArray line.now f (λ es. unwrap_or result said.malformed ≡ said.call_said (call.connected_in es) store.old) }
+    ensures store_after { spec.EachArray line.now f (λ es. store.new ≡ said.call_done (call.connected_in es) store.old) }
 {
-    let at_session = f.second;
-    let at_id = f.third;
-    let at_name = f.fourth;
-    let behind = f.fifth;
-    let Place::Nowhere = behind else {
-        return malformed();
-    };
-    let Found::Is(session) = number_at(line, at_session) else {
-        return malformed();
-    };
-    let mut ids = [0u8; LINE];
-    let Copied::Length(id) = text_at(line, at_id, &mut ids) else {
-        return malformed();
-    };
-    let mut names = [0u8; LINE];
-    let GivenRead::Is(name) = given_at(line, at_name, &mut names) else {
-        return malformed();
-    };
-    event_said(connected(store, session, &ids[0..id], name, &names))
+    if f.fifth.is_some() {
+        return None;
+    }
+    let session = number_at(line, f.second)?;
+    let mut ids = [0; LINE];
+    let id = text_at(line, f.third, &mut ids).ok()?;
+    let mut names = [0; LINE];
+    let name = given_at(line, f.fourth, &mut names)?;
+    let answer = connected(store, session, front(&ids, id), given_in(name, &names));
+    Some(event_said(answer))
 }
 
 // A disconnected line.
-pub(crate) fn on_disconnected(store: &mut [u8], line: &[u8], f: Fields) -> Said
+pub(crate) fn on_disconnected(store: &mut [u8], line: &[u8], f: Fields) -> Option<Said>
     requires { length line.now ≤ line_limit }
-    ensures value { (es : Elements) → line_value line.now ≡ some (array es) → f ≡ fields_here line.now → result ≡ said.call_said (call.disconnected_in es) store.old }
-    ensures store_after { (es : Elements) → line_value line.now ≡ some (array es) → f ≡ fields_here line.now → store.new ≡ said.call_done (call.disconnected_in es) store.old }
+    ensures value { spec.EachArray line.now f (λ es. unwrap_or result said.malformed ≡ said.call_said (call.disconnected_in es) store.old) }
+    ensures store_after { spec.EachArray line.now f (λ es. store.new ≡ said.call_done (call.disconnected_in es) store.old) }
 {
-    let at_session = f.second;
-    let at_id = f.third;
-    let behind = f.fourth;
-    let Place::Nowhere = behind else {
-        return malformed();
-    };
-    let Found::Is(session) = number_at(line, at_session) else {
-        return malformed();
-    };
-    let mut ids = [0u8; LINE];
-    let Copied::Length(id) = text_at(line, at_id, &mut ids) else {
-        return malformed();
-    };
-    event_said(disconnected(store, session, &ids[0..id]))
+    if f.fourth.is_some() {
+        return None;
+    }
+    let session = number_at(line, f.second)?;
+    let mut ids = [0; LINE];
+    let id = text_at(line, f.third, &mut ids).ok()?;
+    Some(event_said(disconnected(store, session, front(&ids, id))))
 }
 
 // A line of a session's end.
-pub(crate) fn on_ended(store: &mut [u8], line: &[u8], f: Fields) -> Said
+pub(crate) fn on_ended(store: &mut [u8], line: &[u8], f: Fields) -> Option<Said>
     requires { length line.now ≤ line_limit }
-    ensures value { (es : Elements) → line_value line.now ≡ some (array es) → f ≡ fields_here line.now → result ≡ said.call_said (call.ended_in es) store.old }
-    ensures store_after { (es : Elements) → line_value line.now ≡ some (array es) → f ≡ fields_here line.now → store.new ≡ said.call_done (call.ended_in es) store.old }
+    ensures value { spec.EachArray line.now f (λ es. unwrap_or result said.malformed ≡ said.call_said (call.ended_in es) store.old) }
+    ensures store_after { spec.EachArray line.now f (λ es. store.new ≡ said.call_done (call.ended_in es) store.old) }
 {
-    let at_session = f.second;
-    let behind = f.third;
-    let Place::Nowhere = behind else {
-        return malformed();
-    };
-    let Found::Is(session) = number_at(line, at_session) else {
-        return malformed();
-    };
-    event_said(ended(store, session))
+    if f.third.is_some() {
+        return None;
+    }
+    let session = number_at(line, f.second)?;
+    Some(event_said(ended(store, session)))
 }

@@ -10,11 +10,8 @@ mod happening;
 pub mod input;
 pub mod output;
 
-use json_text::Found;
-use rule::{Given, Protocol};
-
 // The words of the output; the last but one is a per-client question's.
-#[derive(Clone, Copy)]
+#[derive(Clone, Copy, Debug, PartialEq, Eq)]
 pub enum Word {
     Done,
     Kept,
@@ -27,22 +24,15 @@ pub enum Word {
 }
 
 // What is said of a line: a word, with the deciding rule's number or an error's, and the line of a text that the error is of.
-#[derive(Clone, Copy)]
+#[derive(Clone, Copy, Debug, PartialEq, Eq)]
 pub struct Said {
     pub word: Word,
     pub number: u64,
-    pub line: Found,
+    pub line: Option<u64>,
 }
 
-// The place behind a text that was put into a buffer, or that there was no room for it.
-#[derive(Clone, Copy)]
-pub enum Put {
-    End(usize),
-    NoRoom,
-}
-
-// The form of a line, by its word.
-#[derive(Clone, Copy)]
+// The forms of a line, by its word.
+#[derive(Clone, Copy, Debug, PartialEq, Eq)]
 pub enum Form {
     Connect,
     Subscribe,
@@ -50,54 +40,28 @@ pub enum Form {
     Connected,
     Disconnected,
     Ended,
-    Unknown,
-}
-
-#[derive(Clone, Copy)]
-pub enum GivenRead {
-    Is(Given),
-    Bad,
-}
-
-#[derive(Clone, Copy)]
-pub enum ProtocolRead {
-    Is(Protocol),
-    Bad,
 }
 
 // Who asks: the earlier answer's code, and the lengths of his texts in their buffers.
-#[derive(Clone, Copy)]
+#[derive(Clone, Copy, Debug, PartialEq, Eq)]
 pub struct Asker {
     pub earlier: u64,
     pub id: usize,
-    pub name: Given,
-    pub password: Given,
-    pub address: Given,
-    pub protocol: Protocol,
-}
-
-#[derive(Clone, Copy)]
-pub enum AskerRead {
-    Asker(Asker),
-    Bad,
-}
-
-// The client of a first line: the superuser flag, and the lengths of the texts in their buffers.
-#[derive(Clone, Copy)]
-pub enum HeaderRead {
-    Client(bool, usize, Given),
-    Bad,
+    pub name: Option<usize>,
+    pub password: Option<usize>,
+    pub address: Option<usize>,
+    pub protocol: Option<u8>,
 }
 
 // A line that has begun: how many of its bytes are in the buffer, and whether it is longer than that.
-#[derive(Clone, Copy)]
+#[derive(Clone, Copy, Debug, PartialEq, Eq)]
 pub struct Begun {
     pub length: usize,
     pub long: bool,
 }
 
 // One byte later: the line goes on, or it is whole, with its length, or whole and too long.
-#[derive(Clone, Copy)]
+#[derive(Clone, Copy, Debug, PartialEq, Eq)]
 pub enum Taken {
     Part(Begun),
     Line(usize),
@@ -105,16 +69,24 @@ pub enum Taken {
 }
 
 // Rules that have begun: how many of their bytes are in the buffer, and whether a line begins behind them.
-#[derive(Clone, Copy)]
+#[derive(Clone, Copy, Debug, PartialEq, Eq)]
 pub struct Rules {
     pub length: usize,
     pub fresh: bool,
 }
 
 // One byte later: the rules go on, or an empty line ends them, or they are longer than the buffer.
-#[derive(Clone, Copy)]
+#[derive(Clone, Copy, Debug, PartialEq, Eq)]
 pub enum RulesTaken {
     Part(Rules),
     Whole(usize),
     TooLong,
+}
+
+// The client of a first line: the superuser flag, and the lengths of the texts in their buffers.
+#[derive(Clone, Copy, Debug, PartialEq, Eq)]
+pub struct Header {
+    pub superuser: bool,
+    pub id: usize,
+    pub name: Option<usize>,
 }

@@ -3,7 +3,8 @@ use Prim.Native.Nat.{ℕ, suc, ◌+◌, ◌*◌, ◌≤◌, ◌<◌}
 use mathlib.Core.Path.{◌≡◌, refl, ap}
 use mathlib.Core.Bool.{Bool, true, false, ◌||◌, cond, not, ◌&&◌}
 use mathlib.Core.List.{List, [], ◌∷◌}
-use mathlib.Core.Option.{Option, none, some, map}
+use Rattle.std.specs.Prelude.{Option, None, Some, Result, Ok, Err}
+use Rattle.std.specs.Option.{option_map}
 use native.Mathlib.Omega.{arith}
 use borrow.Author.Tests.{ltb-false}
 use lib.Dec.{ltb, leb, eqb}
@@ -14,9 +15,9 @@ use Rattle.table.specs.Table.{some_row}
 use Rattle.rule.specs.Limits.{text_limit, lines_limit}
 use Rattle.rule.specs.Refusals.{number, first}
 use Rattle.rule.specs.Rule.{Rule, Meaning}
-use Rattle.rule.specs.RuleText.{Result, refused, gives, read_rule, Fault, fault_in, text_fault, rule_on, rules_of}
+use Rattle.rule.specs.RuleText.{read_rule, fault_in, text_fault, rule_on, rules_of}
+use Rattle.rule.specs.declared.Fault.{Fault}
 use Rattle.rule.specs.Identity.{Client, superuser}
-use Rattle.rule.specs.Places.{placed_protocol}
 use Rattle.rule.specs.declared.Refusal.{Refusal}
 use Rattle.rule.specs.declared.Refusal.TheVariants.{TooLong, OutOfRange, Malformed, Counts as CountsCause, NotJson, NotARule, FilledTooLong, FiltersFull, EqsFull, NotesFull}
 use Rattle.store.specs.Store.{over, counts_fit, store_length, FilterRow, EqRow, View}
@@ -26,7 +27,6 @@ use Rattle.store.specs.declared.Counts.{Counts}
 use Rattle.store.proofs.ViewLaws.{view-well_formed}
 use Rattle.questions.specs.Question.{Question, connect, subscribe, publish, connect_limit, code_limit, qos_limit, client_over, question_cause}
 use Rattle.questions.specs.Decision.{Wish, client, wish, keeps, rule_agrees, first_from, refusal, allowance, by_rule, ask}
-use Rattle.questions.specs.Parts.{protocol_of}
 use Rattle.questions.proofs.AskLaws.{refuses_by, refuses_malformed, keeps_by, decides_by}
 use Rattle.mqtt_acl.specs.Answers.{open_number, decision_number, packed}
 use Rattle.mqtt_acl.specs.Unpacked.{read_open}
@@ -34,19 +34,19 @@ use Rattle.mqtt_acl.proofs.Reading.{open_back}
 
 -- ---- number 1, then number 2
 
-first_small : (a b : Bool) (n : ℕ) → first ((a, 1) ∷ (b, 2) ∷ []) ≡ some n → n ≤ 2
+first_small : (a b : Bool) (n : ℕ) → first ((a, 1) ∷ (b, 2) ∷ []) ≡ Some n → n ≤ 2
 unfolding first
 first_small true b n e = let h : 1 ≡ n = cc in omega arith
 first_small false true n e = let h : 2 ≡ n = cc in omega arith
 first_small false false n e = let z : ◌≡◌ {A = ℕ} 0 1 = cc in omega arith
 
-pub first-none : (a b : Bool) → first ((a, 1) ∷ (b, 2) ∷ []) ≡ none → b ≡ false
+pub first-none : (a b : Bool) → first ((a, 1) ∷ (b, 2) ∷ []) ≡ None → b ≡ false
 unfolding first
 first-none true b e = cc
 first-none false true e = cc
 first-none false false e = refl
 
-pub cause_small : (q : Question) (n : ℕ) → question_cause q ≡ some n → n ≤ 2
+pub cause_small : (q : Question) (n : ℕ) → question_cause q ≡ Some n → n ≤ 2
 unfolding question_cause
 cause_small (connect earlier c) n e = first_small (client_over c) (ltb connect_limit earlier) n e
 cause_small (subscribe earlier c topic qos) n e = first_small (client_over c || over text_limit topic) (ltb code_limit earlier || ltb qos_limit qos) n e
@@ -54,11 +54,11 @@ cause_small (publish earlier c topic disconnect) n e = first_small (client_over 
 
 -- ---- codes and QoS
 
-cond-some : (b : Bool) (n m : ℕ) → cond b (some n) none ≡ some m → n ≡ m
+cond-some : (b : Bool) (n m : ℕ) → cond b (Some n) None ≡ Some m → n ≡ m
 cond-some true n m e = cc
 cond-some false n m e = cc
 
-kept_small : (q : Question) (code : ℕ) → question_cause q ≡ none → keeps q ≡ some code → code ≤ 4
+kept_small : (q : Question) (code : ℕ) → question_cause q ≡ None → keeps q ≡ Some code → code ≤ 4
 unfolding question_cause keeps
 kept_small (connect earlier c) code e k =
     let is = cond-some (eqb earlier 3 || eqb earlier 4) earlier code k in
@@ -80,7 +80,7 @@ refusal_small (subscribe earlier c topic qos) n h = omega arith
 refusal_small (publish earlier c topic true) n h = omega arith
 refusal_small (publish earlier c topic false) n h = omega arith
 
-allowance_small : (q : Question) (n : ℕ) (r : Meaning) → question_cause q ≡ none → n ≤ 256 → decision_number (allowance q n r) ≤ 4111
+allowance_small : (q : Question) (n : ℕ) (r : Meaning) → question_cause q ≡ None → n ≤ 256 → decision_number (allowance q n r) ≤ 4111
 unfolding decision_number allowance question_cause
 allowance_small (connect earlier c) n r e h = by (superuser r)
   where
@@ -92,11 +92,11 @@ allowance_small (subscribe earlier c topic qos) n r e h =
     omega (arith, ltb-false qos_limit qos k.1)
 allowance_small (publish earlier c topic disconnect) n r e h = omega arith
 
-by_rule_small : (q : Question) (o : Option (ℕ × Meaning)) → question_cause q ≡ none → ((f : ℕ × Meaning) → o ≡ some f → f.0 < 256)
+by_rule_small : (q : Question) (o : Option (ℕ × Meaning)) → question_cause q ≡ None → ((f : ℕ × Meaning) → o ≡ Some f → f.0 < 256)
     → decision_number (by_rule q o) ≤ 4111
 unfolding by_rule
-by_rule_small q none e h = refusal_small q 0 (omega arith)
-by_rule_small q (some f) e h = by f.1.allow
+by_rule_small q None e h = refusal_small q 0 (omega arith)
+by_rule_small q (Some f) e h = by f.1.allow
   where
     by : (b : Bool) → decision_number (cond b (allowance q (suc f.0) f.1) (refusal q (suc f.0))) ≤ 4111
     by true = allowance_small q (suc f.0) f.1 e (omega (arith, h f refl))
@@ -105,30 +105,30 @@ by_rule_small q (some f) e h = by f.1.allow
 -- ---- the rule that decides is one of the text's
 
 module _ (some_filter : (FilterRow → Bool) → Bool) (some_eq : (EqRow → Bool) → Bool) (c : Client) (w : Wish) where
-  pub first_below : (n : ℕ) (rules : List (Option Meaning)) (f : ℕ × Meaning) → first_from some_filter some_eq c w n rules ≡ some f → f.0 < n + length rules
+  pub first_below : (n : ℕ) (rules : List (Option Meaning)) (f : ℕ × Meaning) → first_from some_filter some_eq c w n rules ≡ Some f → f.0 < n + length rules
   unfolding first_from
   first_below n [] f e = let z : ◌≡◌ {A = ℕ} 0 1 = cc in omega arith
-  first_below n (none ∷ rules) f e = omega (arith, first_below (suc n) rules f e)
-  first_below n (some r ∷ rules) f e = by (rule_agrees some_filter some_eq c w n r) (first_below (suc n) rules f) e
+  first_below n (None ∷ rules) f e = omega (arith, first_below (suc n) rules f e)
+  first_below n (Some r ∷ rules) f e = by (rule_agrees some_filter some_eq c w n r) (first_below (suc n) rules f) e
     where
-      by : (b : Bool) → (first_from some_filter some_eq c w (suc n) rules ≡ some f → f.0 < suc n + length rules)
-          → cond b (some (n, r)) (first_from some_filter some_eq c w (suc n) rules) ≡ some f → f.0 < n + suc (length rules)
+      by : (b : Bool) → (first_from some_filter some_eq c w (suc n) rules ≡ Some f → f.0 < suc n + length rules)
+          → cond b (Some (n, r)) (first_from some_filter some_eq c w (suc n) rules) ≡ Some f → f.0 < n + suc (length rules)
       by true h k = let is : (n, r) ≡ f = cc in omega (arith, ap (λ (p : ℕ × Meaning). p.0) is)
       by false h k = omega (arith, h k)
 
-lines_few : (text : List ℕ) → text_fault text ≡ none → length (lines text) ≤ lines_limit
+lines_few : (text : List ℕ) → text_fault text ≡ None → length (lines text) ≤ lines_limit
 unfolding text_fault
 lines_few text e = at (ltb lines_limit (length (lines text))) refl e
   where
     at : (b : Bool) → ltb lines_limit (length (lines text)) ≡ b
-        → cond b (some (record { cause = TooLong; line = suc lines_limit })) (fault_in 1 (lines text)) ≡ none → length (lines text) ≤ lines_limit
+        → cond b (Some (record { cause = TooLong; line = suc lines_limit })) (fault_in 1 (lines text)) ≡ None → length (lines text) ≤ lines_limit
     at true q k = let z : ◌≡◌ {A = ℕ} 0 1 = cc in absurd (omega arith)
     at false q k = ltb-false lines_limit (length (lines text)) q
 
-faultless_none : (o : Option Fault) → faultless o ≡ true → o ≡ none
+faultless_none : (o : Option Fault) → faultless o ≡ true → o ≡ None
 unfolding faultless
-faultless_none none e = refl
-faultless_none (some f) e = cc
+faultless_none None e = refl
+faultless_none (Some f) e = cc
 
 -- "over 256 lines" is refused
 rules_few : (v : View) → well_formed v ≡ true → length (rules_of v.text) ≤ 256
@@ -141,26 +141,26 @@ rules_few v e =
 
 -- ---- every answer
 
-keeps_small : (q : Question) (s : List ℕ) (v : View) → question_cause q ≡ none → view s ≡ some v → (o : Option ℕ) → keeps q ≡ o → packed (ask q s) ≤ 4111
+keeps_small : (q : Question) (s : List ℕ) (v : View) → question_cause q ≡ None → view s ≡ Some v → (o : Option ℕ) → keeps q ≡ o → packed (ask q s) ≤ 4111
 unfolding packed decision_number
-keeps_small q s v e h (some code) k = rw (keeps_by q s e h k) (omega (arith, kept_small q code e k))
-keeps_small q s v e h none k =
+keeps_small q s v e h (Some code) k = rw (keeps_by q s e h k) (omega (arith, kept_small q code e k))
+keeps_small q s v e h None k =
     let few = rules_few v (view-well_formed s v h) in
     rw (decides_by q s e h k)
     (by_rule_small q _ e (λ f is. omega (arith, first_below (λ p. some_row p v.filters) (λ p. some_row p v.eqs) (client q) (wish q) 0 (rules_of v.text) f is)))
 
-view_small : (q : Question) (s : List ℕ) → question_cause q ≡ none → (o : Option View) → view s ≡ o → packed (ask q s) ≤ 4111
+view_small : (q : Question) (s : List ℕ) → question_cause q ≡ None → (o : Option View) → view s ≡ o → packed (ask q s) ≤ 4111
 unfolding packed
-view_small q s e none h = rw (refuses_malformed q s e h) (omega arith)
-view_small q s e (some v) h = keeps_small q s v e h (keeps q) refl
+view_small q s e None h = rw (refuses_malformed q s e h) (omega arith)
+view_small q s e (Some v) h = keeps_small q s v e h (keeps q) refl
 
 pub answer_small : (q : Question) (s : List ℕ) → packed (ask q s) ≤ 4111
 unfolding packed
 answer_small q s = by (question_cause q) refl
   where
     by : (o : Option ℕ) → question_cause q ≡ o → packed (ask q s) ≤ 4111
-    by (some n) e = rw (refuses_by q s e) (omega (arith, cause_small q n e))
-    by none e = view_small q s e (view s) refl
+    by (Some n) e = rw (refuses_by q s e) (omega (arith, cause_small q n e))
+    by None e = view_small q s e (view s) refl
 
 -- ---- opening
 
@@ -190,57 +190,52 @@ number_some FiltersFull = omega arith
 number_some EqsFull = omega arith
 number_some NotesFull = omega arith
 
-fault-line : (n : ℕ) (ls : List (List ℕ)) (f : Fault) → fault_in n ls ≡ some f → f.line < n + length ls
+fault-line : (n : ℕ) (ls : List (List ℕ)) (f : Fault) → fault_in n ls ≡ Some f → f.line < n + length ls
 unfolding fault_in
 fault-line n [] f e = let z : ◌≡◌ {A = ℕ} 0 1 = cc in omega arith
 fault-line n (line ∷ rest) f e = by (read_rule line) (fault-line (suc n) rest f) e
   where
-    by : (o : Result Rule) → (fault_in (suc n) rest ≡ some f → f.line < suc n + length rest)
-        → (elim o as (λ _. Option Fault) [ refused cause ↦ some (record { cause = cause; line = n }) | gives r ↦ fault_in (suc n) rest ]) ≡ some f → f.line < n + suc (length rest)
-    by (refused cause) h k =
+    by : (o : Result Rule Refusal) → (fault_in (suc n) rest ≡ Some f → f.line < suc n + length rest)
+        → (elim o as (λ _. Option Fault) [ Err cause ↦ Some (record { cause = cause; line = n }) | Ok r ↦ fault_in (suc n) rest ]) ≡ Some f → f.line < n + suc (length rest)
+    by (Err cause) h k =
         let is : record { cause = cause; line = n } ≡ f = cc in omega (arith, ap (λ (g : Fault). g.line) is)
-    by (gives r) h k = omega (arith, h k)
+    by (Ok r) h k = omega (arith, h k)
 
-text_line : (text : List ℕ) (f : Fault) → text_fault text ≡ some f → f.line ≤ 257
+text_line : (text : List ℕ) (f : Fault) → text_fault text ≡ Some f → f.line ≤ 257
 unfolding text_fault
 text_line text f e = at (ltb lines_limit (length (lines text))) refl e
   where
     at : (b : Bool) → ltb lines_limit (length (lines text)) ≡ b
-        → cond b (some (record { cause = TooLong; line = suc lines_limit })) (fault_in 1 (lines text)) ≡ some f → f.line ≤ 257
+        → cond b (Some (record { cause = TooLong; line = suc lines_limit })) (fault_in 1 (lines text)) ≡ Some f → f.line ≤ 257
     at true q k = let is : record { cause = TooLong; line = suc lines_limit } ≡ f = cc in omega (arith, ap (λ (g : Fault). g.line) is)
     at false q k = omega (arith, ltb-false lines_limit (length (lines text)) q, fault-line 1 (lines text) f k)
 
-open_line : (c : Counts) (text : List ℕ) (room : ℕ) (f : Fault) → open_fault c text room ≡ some f → f.line ≤ 257
+open_line : (c : Counts) (text : List ℕ) (room : ℕ) (f : Fault) → open_fault c text room ≡ Some f → f.line ≤ 257
 unfolding open_fault
 open_line c text room f e = by (not (counts_fit c && eqb room (store_length c))) (ltb c.bytes (length text)) e
   where
-    by : (a b : Bool) → cond a (some (record { cause = CountsCause; line = 0 })) (cond b (some (record { cause = TooLong; line = 0 })) (text_fault text)) ≡ some f
+    by : (a b : Bool) → cond a (Some (record { cause = CountsCause; line = 0 })) (cond b (Some (record { cause = TooLong; line = 0 })) (text_fault text)) ≡ Some f
         → f.line ≤ 257
     by true b k = let is : record { cause = CountsCause; line = 0 } ≡ f = cc in omega (arith, ap (λ (g : Fault). g.line) is)
     by false true k = let is : record { cause = TooLong; line = 0 } ≡ f = cc in omega (arith, ap (λ (g : Fault). g.line) is)
     by false false k = text_line text f k
 
-pub open_small : (c : Counts) (text : List ℕ) (room : ℕ) → open_number (map told (open_fault c text room)) ≤ 66047
+pub open_small : (c : Counts) (text : List ℕ) (room : ℕ) → open_number (option_map told (open_fault c text room)) ≤ 66047
 unfolding open_number told
 open_small c text room = by (open_fault c text room) refl
   where
-    by : (o : Option Fault) → open_fault c text room ≡ o → open_number (map told o) ≤ 66047
-    by none e = omega arith
-    by (some f) e = omega (arith, number_small f.cause, open_line c text room f e)
+    by : (o : Option Fault) → open_fault c text room ≡ o → open_number (option_map told o) ≤ 66047
+    by None e = omega arith
+    by (Some f) e = omega (arith, number_small f.cause, open_line c text room f e)
 
 -- every answer of opening is what its number says
 pub open_read_back : (c : Counts) (text : List ℕ) (room : ℕ)
-    → read_open (open_number (map told (open_fault c text room))) ≡ map told (open_fault c text room)
+    → read_open (open_number (option_map told (open_fault c text room))) ≡ option_map told (open_fault c text room)
 unfolding open_number told read_open
 open_read_back c text room = by (open_fault c text room)
   where
-    by : (o : Option Fault) → read_open (open_number (map told o)) ≡ map told o
-    by none = refl
-    by (some f) = open_back (number f.cause) f.line (number_small f.cause) (number_some f.cause)
+    by : (o : Option Fault) → read_open (open_number (option_map told o)) ≡ option_map told o
+    by None = refl
+    by (Some f) = open_back (number f.cause) f.line (number_small f.cause) (number_some f.cause)
 
 -- ---- the protocol that counts where its flag is true
-
-pub protocol_placed : (o : Option ℕ) → protocol_of (placed_protocol o) ≡ o
-unfolding protocol_of placed_protocol
-protocol_placed none = refl
-protocol_placed (some n) = refl

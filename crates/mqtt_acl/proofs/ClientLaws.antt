@@ -4,7 +4,7 @@ use Prim.Native.Nat.{ℕ, zero, suc, ◌+◌, ◌≤◌, ◌<◌}
 use mathlib.Core.Path.{◌≡◌, refl, ap, ◌∙◌}
 use mathlib.Core.Bool.{Bool, true, false, ◌||◌, cond}
 use mathlib.Core.List.{List, [], ◌∷◌}
-use mathlib.Core.Option.{Option, none, some}
+use Rattle.std.specs.Prelude.{Option, None, Some, Result, Ok, Err}
 use native.Mathlib.Omega.{arith}
 use borrow.Author.Tests.{ltb-false}
 use lib.Dec.{ltb}
@@ -12,17 +12,18 @@ use lib.ListN.{length}
 use Rattle.json_text.specs.Lines.{lines}
 use Rattle.rule.specs.Limits.{lines_limit}
 use Rattle.rule.specs.Refusals.{number}
-use Rattle.rule.specs.RuleText.{Result, refused, gives, Fault}
+use Rattle.rule.specs.declared.Fault.{Fault}
 use Rattle.rule.specs.declared.Refusal.TheVariants.{TooLong, OutOfRange}
 use Rattle.authinfo.specs.ClientRule.{ClientRule, read_line}
 use Rattle.authinfo.specs.Decision.{Client, Question, subscribe, publish, qos_asked, qos_limit, hits, TextRead, faulty, reads, with_rule, read_lines, first_hit, allowance, refusal, by_rule, decision, refuse, on_text, causes, first_fault, ask}
 use Rattle.authinfo.specs.Decision.{subscribes, publishes, not_authorized, no_decision, Reply, refuses, decides}
 use Rattle.authinfo.specs.Expiry as expiry
-use Rattle.authinfo.specs.declared.Expiry.{Expiry}
 use Rattle.mqtt_acl.specs.Clients.{decision_number, packed, expiry_number}
 use Rattle.mqtt_acl.specs.Unpacked.{Parts, parts_by, parts, by_client, on_expiry, client_allows}
 use Rattle.mqtt_acl.proofs.AnswerLaws.{number_small}
 use Rattle.mqtt_acl.proofs.Reading.{back, number_back, line_back, refusal_back}
+use Rattle.authinfo.specs.declared.Time.{Time}
+use Rattle.rule.specs.declared.Refusal.{Refusal}
 
 -- ---- what a question is answered
 
@@ -43,19 +44,19 @@ unfolding read_lines with_rule Bounded
 bounded id name n [] = refl
 bounded id name n (line ∷ rest) = by (read_line id name line) (read_lines id name (suc n) rest) (bounded id name (suc n) rest)
   where
-    by : (o : Result ClientRule) (t : TextRead) → Bounded (suc n) (length rest) t
-        → Bounded n (suc (length rest)) (elim o as (λ _. TextRead) [ refused cause ↦ faulty (record { cause = cause; line = n }) | gives r ↦ with_rule r t ])
-    by (refused cause) t h = omega arith
-    by (gives r) (faulty f) h = omega (arith, h)
-    by (gives r) (reads rules) h = ap suc h
+    by : (o : Result ClientRule Refusal) (t : TextRead) → Bounded (suc n) (length rest) t
+        → Bounded n (suc (length rest)) (elim o as (λ _. TextRead) [ Err cause ↦ faulty (record { cause = cause; line = n }) | Ok r ↦ with_rule r t ])
+    by (Err cause) t h = omega arith
+    by (Ok r) (faulty f) h = omega (arith, h)
+    by (Ok r) (reads rules) h = ap suc h
 
-hit_below : (q : Question) (n : ℕ) (rules : List ClientRule) (h : ℕ × ClientRule) → first_hit q n rules ≡ some h → h.0 < n + length rules
+hit_below : (q : Question) (n : ℕ) (rules : List ClientRule) (h : ℕ × ClientRule) → first_hit q n rules ≡ Some h → h.0 < n + length rules
 unfolding first_hit
 hit_below q n [] h e = let z : ◌≡◌ {A = ℕ} 0 1 = cc in omega arith
 hit_below q n (r ∷ rules) h e = by (hits q r) (hit_below q (suc n) rules h) e
   where
-    by : (b : Bool) → (first_hit q (suc n) rules ≡ some h → h.0 < suc n + length rules)
-        → cond b (some (n, r)) (first_hit q (suc n) rules) ≡ some h → h.0 < n + suc (length rules)
+    by : (b : Bool) → (first_hit q (suc n) rules ≡ Some h → h.0 < suc n + length rules)
+        → cond b (Some (n, r)) (first_hit q (suc n) rules) ≡ Some h → h.0 < n + suc (length rules)
     by true k i = let is : (n, r) ≡ h = cc in omega (arith, ap (λ (p : ℕ × ClientRule). p.0) is)
     by false k i = omega (arith, k i)
 
@@ -66,14 +67,14 @@ allowance_answered (publish qos retain disconnect topic) n low h = published n h
 
 refusal_answered : (q : Question) (n : ℕ) → n ≤ 256 → Answered (decides (refusal q n))
 unfolding refusal
-refusal_answered (subscribe qos topic) n h = denied n none h
-refusal_answered (publish qos retain disconnect topic) n h = denied n (some disconnect) h
+refusal_answered (subscribe qos topic) n h = denied n None h
+refusal_answered (publish qos retain disconnect topic) n h = denied n (Some disconnect) h
 
-by_rule-answered : (q : Question) (o : Option (ℕ × ClientRule)) → qos_asked q ≤ 2 → ((h : ℕ × ClientRule) → o ≡ some h → h.0 ≤ 256)
+by_rule-answered : (q : Question) (o : Option (ℕ × ClientRule)) → qos_asked q ≤ 2 → ((h : ℕ × ClientRule) → o ≡ Some h → h.0 ≤ 256)
     → Answered (decides (by_rule q o))
 unfolding by_rule
-by_rule-answered q none low small = undecided
-by_rule-answered q (some h) low small = by h.1.allow
+by_rule-answered q None low small = undecided
+by_rule-answered q (Some h) low small = by h.1.allow
   where
     by : (b : Bool) → Answered (decides (cond b (allowance q h.0) (refusal q h.0)))
     by true = allowance_answered q h.0 low (small h refl)
@@ -87,7 +88,7 @@ on_text_lem false q k few low (reads rules) b =
     by_rule-answered q (first_hit q 1 rules) low (λ h e. omega (arith, b, hit_below q 1 rules h e))
 
 cause-line : (a b d : Bool) (f : Fault)
-    → first_fault ((a, record { cause = TooLong; line = 0 }) ∷ (b, record { cause = TooLong; line = suc lines_limit }) ∷ (d, record { cause = OutOfRange; line = 0 }) ∷ []) ≡ some f
+    → first_fault ((a, record { cause = TooLong; line = 0 }) ∷ (b, record { cause = TooLong; line = suc lines_limit }) ∷ (d, record { cause = OutOfRange; line = 0 }) ∷ []) ≡ Some f
     → f.line ≤ 257
 unfolding first_fault
 cause-line true b d f e = let is : record { cause = TooLong; line = 0 } ≡ f = cc in omega (arith, ap (λ (g : Fault). g.line) is)
@@ -96,7 +97,7 @@ cause-line false false true f e = let is : record { cause = OutOfRange; line = 0
 cause-line false false false f e = let z : ◌≡◌ {A = ℕ} 0 1 = cc in omega arith
 
 no_cause : (a b d : Bool)
-    → first_fault ((a, record { cause = TooLong; line = 0 }) ∷ (b, record { cause = TooLong; line = suc lines_limit }) ∷ (d, record { cause = OutOfRange; line = 0 }) ∷ []) ≡ none
+    → first_fault ((a, record { cause = TooLong; line = 0 }) ∷ (b, record { cause = TooLong; line = suc lines_limit }) ∷ (d, record { cause = OutOfRange; line = 0 }) ∷ []) ≡ None
     → (b ≡ false) × (d ≡ false)
 unfolding first_fault
 no_cause true b d e = let z : ◌≡◌ {A = ℕ} 0 1 = cc in absurd (omega arith)
@@ -109,9 +110,9 @@ unfolding ask causes refuse
 answered c rules q = by (first_fault (causes c rules q)) refl
   where
     by : (o : Option Fault) → first_fault (causes c rules q) ≡ o
-        → Answered (elim o as (λ _. Reply) [ some f ↦ refuse f | none ↦ on_text c.superuser q (read_lines c.id c.name 1 (lines rules)) ])
-    by (some f) e = by_number (number f.cause) f.line (number_small f.cause) (cause-line _ _ _ f e)
-    by none e =
+        → Answered (elim o as (λ _. Reply) [ Some f ↦ refuse f | None ↦ on_text c.superuser q (read_lines c.id c.name 1 (lines rules)) ])
+    by (Some f) e = by_number (number f.cause) f.line (number_small f.cause) (cause-line _ _ _ f e)
+    by None e =
         let h = no_cause _ (ltb lines_limit (length (lines rules))) (ltb qos_limit (qos_asked q)) e in
         on_text_lem c.superuser q (length (lines rules)) (ltb-false lines_limit (length (lines rules)) h.0) (ltb-false qos_limit (qos_asked q) h.1)
         (read_lines c.id c.name 1 (lines rules)) (bounded c.id c.name 1 (lines rules))
@@ -123,9 +124,9 @@ unfolding packed decision_number
 answered_small (by_number n line h l) = omega (arith, h, l)
 answered_small (subscribed rule qos h l) = omega (arith, h, l)
 answered_small (published rule h) = omega (arith, h)
-answered_small (denied rule none h) = omega (arith, h)
-answered_small (denied rule (some false) h) = omega (arith, h)
-answered_small (denied rule (some true) h) = omega (arith, h)
+answered_small (denied rule None h) = omega (arith, h)
+answered_small (denied rule (Some false) h) = omega (arith, h)
+answered_small (denied rule (Some true) h) = omega (arith, h)
 answered_small undecided = omega arith
 
 pub client_small : (c : Client) (rules : List ℕ) (q : Question) → packed (ask c rules q) ≤ 1052832
@@ -135,27 +136,27 @@ client_small c rules q = answered_small (answered c rules q)
 
 -- its number's parts are those of the answer
 abbrev Back : Reply → Type 0
-Back r = (by_client (parts (packed r)) ≡ some r) × ((parts (packed r)).allows ≡ client_allows r)
+Back r = (by_client (parts (packed r)) ≡ Some r) × ((parts (packed r)).allows ≡ client_allows r)
 
-told : (r : Reply) {p : Parts} → parts (packed r) ≡ p → by_client p ≡ some r → p.allows ≡ client_allows r → Back r
+told : (r : Reply) {p : Parts} → parts (packed r) ≡ p → by_client p ≡ Some r → p.allows ≡ client_allows r → Back r
 told r e reply allow = (ap by_client e ∙ reply, ap (λ (p : Parts). p.allows) e ∙ allow)
 
 answered_back : {r : Reply} → Answered r → Back r
 unfolding packed decision_number parts_by by_client client_allows
 answered_back (by_number n line h l) =
-    told (refuses n line) (refusal_back n line h) (λ i. some (refuses (number_back n line h i) (line_back n line h i))) refl
+    told (refuses n line) (refusal_back n line h) (λ i. Some (refuses (number_back n line h i) (line_back n line h i))) refl
 answered_back (subscribed rule zero h l) = told (decides (subscribes rule 0)) (back 4 rule refl refl) refl refl
 answered_back (subscribed rule (suc zero) h l) = told (decides (subscribes rule 1)) (back 5 rule refl refl) refl refl
 answered_back (subscribed rule (suc (suc zero)) h l) = told (decides (subscribes rule 2)) (back 6 rule refl refl) refl refl
 answered_back (subscribed rule (suc (suc (suc n))) h l) = absurd (omega arith)
 answered_back (published rule h) = told (decides (publishes rule)) (back 7 rule refl refl) refl refl
-answered_back (denied rule none h) = told (decides (not_authorized rule none)) (back 8 rule refl refl) refl refl
-answered_back (denied rule (some false) h) = told (decides (not_authorized rule (some false))) (back 9 rule refl refl) refl refl
-answered_back (denied rule (some true) h) = told (decides (not_authorized rule (some true))) (back 10 rule refl refl) refl refl
+answered_back (denied rule None h) = told (decides (not_authorized rule None)) (back 8 rule refl refl) refl refl
+answered_back (denied rule (Some false) h) = told (decides (not_authorized rule (Some false))) (back 9 rule refl refl) refl refl
+answered_back (denied rule (Some true) h) = told (decides (not_authorized rule (Some true))) (back 10 rule refl refl) refl refl
 answered_back undecided = told (decides no_decision) (back 12 0 refl refl) refl refl
 
 -- every answer of a per-client question, on any text of rules, is what its number says
-pub client_read_back : (c : Client) (rules : List ℕ) (q : Question) → by_client (parts (packed (ask c rules q))) ≡ some (ask c rules q)
+pub client_read_back : (c : Client) (rules : List ℕ) (q : Question) → by_client (parts (packed (ask c rules q))) ≡ Some (ask c rules q)
 client_read_back c rules q = (answered_back (answered c rules q)).0
 
 -- and says that it allows where it does
@@ -163,14 +164,12 @@ pub client-allows_back : (c : Client) (rules : List ℕ) (q : Question) → (par
 client-allows_back c rules q = (answered_back (answered c rules q)).1
 
 -- and of an expiry
-pub expiry_read_back : (e : Expiry) (seconds nanoseconds : ℕ)
-    → on_expiry (parts (expiry_number (expiry.expiry e seconds nanoseconds))) ≡ some (expiry.expiry e seconds nanoseconds)
+pub expiry_read_back : (e : Option Time) (now : Time) → on_expiry (parts (expiry_number (expiry.expiry e now))) ≡ Some (expiry.expiry e now)
 unfolding expiry.expiry expiry_number parts parts_by on_expiry
-expiry_read_back e seconds nanoseconds =
-    by (expiry.expiry_over e || expiry.over_nanoseconds nanoseconds) (expiry.is_expired e seconds nanoseconds)
+expiry_read_back e now = by (expiry.expiry_over e || expiry.over_nanoseconds now.nanoseconds) (expiry.is_expired e now)
   where
     by : (over is : Bool)
-        → on_expiry (parts (expiry_number (cond over (expiry.refuses 2) (expiry.decides is)))) ≡ some (cond over (expiry.refuses 2) (expiry.decides is))
+        → on_expiry (parts (expiry_number (cond over (expiry.refuses 2) (expiry.decides is)))) ≡ Some (cond over (expiry.refuses 2) (expiry.decides is))
     by true is = refl
     by false true = refl
     by false false = refl

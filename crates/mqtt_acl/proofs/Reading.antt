@@ -2,7 +2,7 @@
 use Prim.Native.Nat.{ℕ, ◌+◌, ◌*◌, ◌/◌, ◌%◌, ◌≤◌}
 use mathlib.Core.Path.{◌≡◌, refl, sym, ap, ◌∙◌}
 use mathlib.Core.Bool.{Bool, true, false, cond}
-use mathlib.Core.Option.{none, some}
+use Rattle.std.specs.Prelude.{None, Some}
 use native.Mathlib.Nat.{mul-add-div, mul-add-mod_self_left, mod-eq_of_lt, div-eq_of_lt}
 use native.Mathlib.Omega.{arith}
 use lib.Dec.{eqb}
@@ -13,7 +13,7 @@ pub open_refusal_read : (n : ℕ) → open_refusal (read_open n) ≡ n % 256
 unfolding read_open open_refusal
 open_refusal_read n = at (eqb n 0) refl
   where
-    at : (b : Bool) → eqb n 0 ≡ b → open_refusal (cond b none (some (n % 256, n / 256))) ≡ n % 256
+    at : (b : Bool) → eqb n 0 ≡ b → open_refusal (cond b None (Some (n % 256, n / 256))) ≡ n % 256
     at true e = ap (λ m. m % 256) (sym (eqb-true n 0 e))
     at false e = refl
 
@@ -21,7 +21,7 @@ pub open_line_read : (n : ℕ) → open_line (read_open n) ≡ n / 256
 unfolding read_open open_line
 open_line_read n = at (eqb n 0) refl
   where
-    at : (b : Bool) → eqb n 0 ≡ b → open_line (cond b none (some (n % 256, n / 256))) ≡ n / 256
+    at : (b : Bool) → eqb n 0 ≡ b → open_line (cond b None (Some (n % 256, n / 256))) ≡ n / 256
     at true e = ap (λ m. m / 256) (sym (eqb-true n 0 e))
     at false e = refl
 
@@ -50,8 +50,8 @@ module _ (n line : ℕ) (h : n ≤ 10) where
       let e : 16 * (n + 256 * line) ≡ 16 * (256 * line + n) + 0 = omega arith in
       ap parts e ∙ back 0 (256 * line + n) refl refl
 
-  pub open_back : 1 ≤ n → read_open (n + 256 * line) ≡ some (n, line)
+  pub open_back : 1 ≤ n → read_open (n + 256 * line) ≡ Some (n, line)
   unfolding read_open
   open_back l =
       let e : n + 256 * line ≡ 256 * line + n = omega arith in
-      rw (ne_eqb (n + 256 * line) 0 (λ z. omega arith), e) (λ i. some (number_back i, line_back i))
+      rw (ne_eqb (n + 256 * line) 0 (λ z. omega arith), e) (λ i. Some (number_back i, line_back i))

@@ -1,17 +1,16 @@
 -- What the calls on a store answer, as numbers.
-use Rattle.std.specs.Prelude.{ℕ, ◌+◌, ◌*◌, cond}
-use Rattle.std.proofs.Math.Option.{Option, none, some}
+use Rattle.std.specs.Prelude.{ℕ, ◌+◌, ◌*◌, cond, Option, None, Some}
 use Rattle.questions.specs.Question.{Decision, kept, connects, subscribes, publishes, not_authorized, unspecified_error, Reply, refuses, decides}
 
 -- 0 for an opened store, else the number of document 01 and 256 times the line
 unfoldable pub open_number : Option (ℕ × ℕ) → ℕ
-open_number none = 0
-open_number (some fault) = fault.0 + 256 * fault.1
+open_number None = 0
+open_number (Some fault) = fault.0 + 256 * fault.1
 
 -- 0 for an event that is done, else the number; "The first cause in the order listed gives the number"
 unfoldable pub event_number : Option ℕ → ℕ
-event_number none = 0
-event_number (some number) = number
+event_number None = 0
+event_number (Some number) = number
 
 -- below 16 what is answered, from 16 on the rule, or the code that is kept; a QoS is at most 2
 unfoldable pub decision_number : Decision → ℕ
@@ -19,8 +18,8 @@ decision_number (kept code) = 16 * code + 1
 decision_number (connects rule superuser) = 16 * rule + cond superuser 3 2
 decision_number (subscribes rule qos) = 16 * rule + (4 + qos)
 decision_number (publishes rule) = 16 * rule + 7
-decision_number (not_authorized rule none) = 16 * rule + 8
-decision_number (not_authorized rule (some disconnect)) = 16 * rule + cond disconnect 10 9
+decision_number (not_authorized rule None) = 16 * rule + 8
+decision_number (not_authorized rule (Some disconnect)) = 16 * rule + cond disconnect 10 9
 decision_number (unspecified_error rule) = 16 * rule + 11
 
 -- a refusal is 16 times its number, and its place, which is 0 for the three questions

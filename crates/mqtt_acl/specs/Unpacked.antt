@@ -1,7 +1,6 @@
 -- What the number says that a call answered: the numbers of Answers.antt and Clients.antt, taken apart. Every number has its parts, so that a host has no
 -- arithmetic of its own to do.
-use Rattle.std.specs.Prelude.{ℕ, ◌/◌, ◌%◌, Bool, true, false, cond, eqb, ltb, leb}
-use Rattle.std.proofs.Math.Option.{Option, none, some}
+use Rattle.std.specs.Prelude.{ℕ, ◌/◌, ◌%◌, Bool, true, false, cond, eqb, ltb, leb, Option, None, Some}
 use Rattle.questions.specs.Question as store
 use Rattle.authinfo.specs.Decision as client
 use Rattle.authinfo.specs.Expiry as expiry
@@ -46,37 +45,37 @@ parts n = parts_by (n % 16) (n / 16)
 -- flag; 11 a subscribe refused
 unfoldable pub on_store : Parts → Option store.Reply
 on_store p =
-    cond (eqb p.what 0) (some (store.refuses p.refusal p.line))
-    (cond (eqb p.what 1) (some (store.decides (store.kept p.code)))
-    (cond (eqb p.what 2) (some (store.decides (store.connects p.rule p.superuser)))
-    (cond (eqb p.what 3) (some (store.decides (store.connects p.rule p.superuser)))
-    (cond (eqb p.what 4) (some (store.decides (store.subscribes p.rule p.qos)))
-    (cond (eqb p.what 5) (some (store.decides (store.subscribes p.rule p.qos)))
-    (cond (eqb p.what 6) (some (store.decides (store.subscribes p.rule p.qos)))
-    (cond (eqb p.what 7) (some (store.decides (store.publishes p.rule)))
-    (cond (eqb p.what 8) (some (store.decides (store.not_authorized p.rule none)))
-    (cond (eqb p.what 9) (some (store.decides (store.not_authorized p.rule (some p.disconnect))))
-    (cond (eqb p.what 10) (some (store.decides (store.not_authorized p.rule (some p.disconnect))))
-    (cond (eqb p.what 11) (some (store.decides (store.unspecified_error p.rule))) none)))))))))))
+    cond (eqb p.what 0) (Some (store.refuses p.refusal p.line))
+    (cond (eqb p.what 1) (Some (store.decides (store.kept p.code)))
+    (cond (eqb p.what 2) (Some (store.decides (store.connects p.rule p.superuser)))
+    (cond (eqb p.what 3) (Some (store.decides (store.connects p.rule p.superuser)))
+    (cond (eqb p.what 4) (Some (store.decides (store.subscribes p.rule p.qos)))
+    (cond (eqb p.what 5) (Some (store.decides (store.subscribes p.rule p.qos)))
+    (cond (eqb p.what 6) (Some (store.decides (store.subscribes p.rule p.qos)))
+    (cond (eqb p.what 7) (Some (store.decides (store.publishes p.rule)))
+    (cond (eqb p.what 8) (Some (store.decides (store.not_authorized p.rule None)))
+    (cond (eqb p.what 9) (Some (store.decides (store.not_authorized p.rule (Some p.disconnect))))
+    (cond (eqb p.what 10) (Some (store.decides (store.not_authorized p.rule (Some p.disconnect))))
+    (cond (eqb p.what 11) (Some (store.decides (store.unspecified_error p.rule))) None)))))))))))
 
 -- the answer of a question by a client's own rules: 0, 4 to 7, 9 and 10 as above; 8 a subscribe refused; 12 no decision
 unfoldable pub by_client : Parts → Option client.Reply
 by_client p =
-    cond (eqb p.what 0) (some (client.refuses p.refusal p.line))
-    (cond (eqb p.what 4) (some (client.decides (client.subscribes p.rule p.qos)))
-    (cond (eqb p.what 5) (some (client.decides (client.subscribes p.rule p.qos)))
-    (cond (eqb p.what 6) (some (client.decides (client.subscribes p.rule p.qos)))
-    (cond (eqb p.what 7) (some (client.decides (client.publishes p.rule)))
-    (cond (eqb p.what 8) (some (client.decides (client.not_authorized p.rule none)))
-    (cond (eqb p.what 9) (some (client.decides (client.not_authorized p.rule (some p.disconnect))))
-    (cond (eqb p.what 10) (some (client.decides (client.not_authorized p.rule (some p.disconnect))))
-    (cond (eqb p.what 12) (some (client.decides client.no_decision)) none))))))))
+    cond (eqb p.what 0) (Some (client.refuses p.refusal p.line))
+    (cond (eqb p.what 4) (Some (client.decides (client.subscribes p.rule p.qos)))
+    (cond (eqb p.what 5) (Some (client.decides (client.subscribes p.rule p.qos)))
+    (cond (eqb p.what 6) (Some (client.decides (client.subscribes p.rule p.qos)))
+    (cond (eqb p.what 7) (Some (client.decides (client.publishes p.rule)))
+    (cond (eqb p.what 8) (Some (client.decides (client.not_authorized p.rule None)))
+    (cond (eqb p.what 9) (Some (client.decides (client.not_authorized p.rule (Some p.disconnect))))
+    (cond (eqb p.what 10) (Some (client.decides (client.not_authorized p.rule (Some p.disconnect))))
+    (cond (eqb p.what 12) (Some (client.decides client.no_decision)) None))))))))
 
 -- and of an expiry: 0 as above; 13 still valid, 14 expired
 unfoldable pub on_expiry : Parts → Option expiry.Reply
 on_expiry p =
-    cond (eqb p.what 0) (some (expiry.refuses p.refusal))
-    (cond (eqb p.what 13) (some (expiry.decides false)) (cond (eqb p.what 14) (some (expiry.decides true)) none))
+    cond (eqb p.what 0) (Some (expiry.refuses p.refusal))
+    (cond (eqb p.what 13) (Some (expiry.decides false)) (cond (eqb p.what 14) (Some (expiry.decides true)) None))
 
 -- ---- which answers allow: a kept code is a refusal, and no decision allows nothing
 
@@ -105,12 +104,12 @@ client_allows (client.decides d) = decided d
 -- ---- opening: 0 is done; any other number has the number of document 01 and its line
 
 unfoldable pub read_open : ℕ → Option (ℕ × ℕ)
-read_open n = cond (eqb n 0) none (some (n % 256, n / 256))
+read_open n = cond (eqb n 0) None (Some (n % 256, n / 256))
 
 unfoldable pub open_refusal : Option (ℕ × ℕ) → ℕ
-open_refusal none = 0
-open_refusal (some fault) = fault.0
+open_refusal None = 0
+open_refusal (Some fault) = fault.0
 
 unfoldable pub open_line : Option (ℕ × ℕ) → ℕ
-open_line none = 0
-open_line (some fault) = fault.1
+open_line None = 0
+open_line (Some fault) = fault.1

@@ -7,11 +7,12 @@ ghost use Rattle.authinfo.specs.Expiry as expiry;
 ghost use Rattle.mqtt_acl.specs.Rules.{where_true, flag};
 ghost use Rattle.mqtt_acl.specs.Clients as clients;
 
-use crate::{flag, given_text};
+use crate::{flag, given};
 use authinfo::ask::{client_publish, client_subscribe};
+use authinfo::client::Client;
 use authinfo::times::expired;
-use authinfo::{Expiry, ExpiryAnswer, PublishAnswer, SubscribeAnswer};
-use rule::refusal_number;
+use authinfo::{PublishAnswer, SubscribeAnswer, Time};
+use rule::{Fault, Refusal, refusal_number};
 
 // What is answered, below 16, with its rule, or its number and line.
 fn with_value(value: u64, what: u64) -> u64
@@ -21,21 +22,32 @@ fn with_value(value: u64, what: u64) -> u64
     16 * value + what
 }
 
-fn subscribe_number(answer: SubscribeAnswer) -> u64
+#[tactic(auto, unfolding(crate::specs::Clients::packed, crate::specs::Clients::decision_number, authinfo::specs::Answers::subscribe_says))]
+fn subscribe_number(answer: Result<SubscribeAnswer, Fault>) -> u64
     requires { clients.packed (said.subscribe_says answer) ≤ 1052832 }
     ensures { result ≡ clients.packed (said.subscribe_says answer) }
 {
     match answer {
-        SubscribeAnswer::Allow(rule, qos) => with_value(rule as u64, 4 + qos),
-        SubscribeAnswer::Refuse(rule) => with_value(rule as u64, 8),
-        SubscribeAnswer::NoDecision => 12,
-        SubscribeAnswer::Refused(cause, line) => {
-            with_value(refusal_number(cause) as u64 + 256 * line as u64, 0)
-        }
+        Ok(SubscribeAnswer::Allow(rule, qos)) => with_value(rule as u64, 4 + qos),
+        Ok(SubscribeAnswer::Refuse(rule)) => with_value(rule as u64, 8),
+        Ok(SubscribeAnswer::NoDecision) => 12,
+        Err(fault) => with_value(
+            refusal_number(fault.cause) as u64 + 256 * fault.line as u64,
+            0,
+        ),
     }
 }
 
+// The client of a call; his name counts where its flag is true.
+#[tactic(auto, unfolding(crate::specs::Rules::where_true, authinfo::specs::Given::given))]
+fn client_of<'a>(superuser: u8, id: &'a [u8], has_name: u8, name: &'a [u8]) -> Client<'a>
+    ensures { result ≡ record { superuser = flag superuser; id = id.now; name = where_true (flag has_name) name.now } }
+{
+    Client::new(flag(superuser), id, given(has_name, name.len()), name)
+}
+
 // May the client subscribe to the topic, by its rules?
+#[tactic(auto, using(crate::proofs::ClientLaws::client_small))]
 pub fn mqtt_acl_client_subscribe(
     superuser: u8,
     id: &[u8],
@@ -47,37 +59,29 @@ pub fn mqtt_acl_client_subscribe(
 ) -> u64
     ensures { result ≡ clients.packed (decision.ask (record { superuser = flag superuser; id = id.now; name = where_true (flag has_name) name.now }) rules.now (decision.subscribe qos topic.now)) }
 {
-    subscribe_number(client_subscribe(
-        flag(superuser),
-        id,
-        given_text(has_name, name),
-        name,
-        rules,
-        qos,
-        topic,
-    ))
+    let client = client_of(superuser, id, has_name, name);
+    subscribe_number(client_subscribe(&client, rules, qos, topic))
 }
 
-fn publish_number(answer: PublishAnswer) -> u64
+#[tactic(auto, unfolding(crate::specs::Clients::packed, crate::specs::Clients::decision_number, authinfo::specs::Answers::publish_says))]
+fn publish_number(answer: Result<PublishAnswer, Fault>) -> u64
     requires { clients.packed (said.publish_says answer) ≤ 1052832 }
     ensures { result ≡ clients.packed (said.publish_says answer) }
 {
     match answer {
-        PublishAnswer::Allow(rule) => with_value(rule as u64, 7),
-        PublishAnswer::Refuse(rule, disconnect) => {
-            if disconnect {
-                return with_value(rule as u64, 10);
-            }
-            with_value(rule as u64, 9)
-        }
-        PublishAnswer::NoDecision => 12,
-        PublishAnswer::Refused(cause, line) => {
-            with_value(refusal_number(cause) as u64 + 256 * line as u64, 0)
-        }
+        Ok(PublishAnswer::Allow(rule)) => with_value(rule as u64, 7),
+        Ok(PublishAnswer::Refuse(rule, true)) => with_value(rule as u64, 10),
+        Ok(PublishAnswer::Refuse(rule, false)) => with_value(rule as u64, 9),
+        Ok(PublishAnswer::NoDecision) => 12,
+        Err(fault) => with_value(
+            refusal_number(fault.cause) as u64 + 256 * fault.line as u64,
+            0,
+        ),
     }
 }
 
 // May the client publish to the topic, by its rules? A refusal by a rule carries the disconnect flag.
+#[tactic(auto, using(crate::proofs::ClientLaws::client_small))]
 pub fn mqtt_acl_client_publish(
     superuser: u8,
     id: &[u8],
@@ -91,43 +95,23 @@ pub fn mqtt_acl_client_publish(
 ) -> u64
     ensures { result ≡ clients.packed (decision.ask (record { superuser = flag superuser; id = id.now; name = where_true (flag has_name) name.now }) rules.now (decision.publish qos (flag retain) (flag disconnect) topic.now)) }
 {
-    publish_number(client_publish(
-        flag(superuser),
-        id,
-        given_text(has_name, name),
-        name,
-        rules,
-        qos,
-        flag(retain),
-        flag(disconnect),
-        topic,
-    ))
+    let client = client_of(superuser, id, has_name, name);
+    publish_number(client_publish(&client, rules, qos, flag(retain), flag(disconnect), topic))
 }
 
-fn given_expiry(has: u8, seconds: u64, nanoseconds: u64) -> Expiry
-    ensures { result ≡ clients.expiry_of (flag has) seconds nanoseconds }
-{
-    if flag(has) {
-        return Expiry::At(seconds, nanoseconds);
-    }
-    Expiry::Never
-}
-
-fn expiry_number(answer: ExpiryAnswer) -> u64
+#[tactic(auto, unfolding(crate::specs::Clients::expiry_number, authinfo::specs::Expiry::expiry_says))]
+fn expiry_number(answer: Result<bool, Refusal>) -> u64
     ensures { result ≡ clients.expiry_number (expiry.expiry_says answer) }
 {
     match answer {
-        ExpiryAnswer::Expired(is) => {
-            if is {
-                return 14;
-            }
-            13
-        }
-        ExpiryAnswer::Refused(cause) => 16 * refusal_number(cause) as u64,
+        Ok(false) => 13,
+        Ok(true) => 14,
+        Err(cause) => 16 * refusal_number(cause) as u64,
     }
 }
 
 // Are the credentials expired now, at these seconds and nanoseconds?
+#[tactic(auto, unfolding(crate::specs::Clients::expiry_of, crate::specs::Rules::where_true))]
 pub fn mqtt_acl_expired(
     has_expiry: u8,
     expiry_seconds: u64,
@@ -135,11 +119,15 @@ pub fn mqtt_acl_expired(
     seconds: u64,
     nanoseconds: u64,
 ) -> u64
-    ensures { result ≡ clients.expiry_number (expiry.expiry (clients.expiry_of (flag has_expiry) expiry_seconds expiry_nanoseconds) seconds nanoseconds) }
+    ensures { result ≡ clients.expiry_number (expiry.expiry (clients.expiry_of (flag has_expiry) expiry_seconds expiry_nanoseconds) (record { seconds = seconds; nanoseconds = nanoseconds })) }
 {
-    expiry_number(expired(
-        given_expiry(has_expiry, expiry_seconds, expiry_nanoseconds),
+    let expiry = Time {
+        seconds: expiry_seconds,
+        nanoseconds: expiry_nanoseconds,
+    };
+    let now = Time {
         seconds,
         nanoseconds,
-    ))
+    };
+    expiry_number(expired(given(has_expiry, expiry), now))
 }

@@ -43,8 +43,8 @@ fn rows_number(filters: usize, eqs: usize, notes: usize) -> u64
 pub fn mqtt_acl_used_rows(store: &[u8]) -> u64
     ensures { result ≡ hosts.used_number (spec.used_in (view store.now)) }
 {
-    let Used::Rows(filters, eqs, notes) = used_rows(store) else {
+    let Some(used) = used_rows(store) else {
         return 18446744073709551615;
     };
-    rows_number(filters, eqs, notes)
+    rows_number(used.filters, used.eqs, used.notes)
 }

@@ -7,12 +7,12 @@ pub mod clients;
 pub mod hosts;
 pub mod unpacking;
 
-ghost use Rattle.std.specs.Prelude.{◌≡◌, ◌+◌, ◌*◌, ◌≤◌, length};
-ghost use Rattle.std.proofs.Math.Option.{some, map};
+ghost use Rattle.std.specs.Prelude.{◌≡◌, ◌+◌, ◌*◌, ◌≤◌, length, Some};
+ghost use Rattle.std.specs.Option.{option_map};
 ghost use Rattle.json_text.specs.Json.{line_value};
 ghost use Rattle.json_text.specs.Access.{is_document, document_within};
 ghost use Rattle.topic.specs.Topic as spec;
-ghost use Rattle.rule.specs.Places.{given, placed_protocol};
+ghost use Rattle.std.specs.Option.{option_copied};
 ghost use Rattle.store.specs.Opening as opening;
 ghost use Rattle.store.specs.View.{view};
 ghost use Rattle.events.specs.Event as event;
@@ -22,15 +22,13 @@ ghost use Rattle.questions.specs.Answers as said;
 ghost use Rattle.mqtt_acl.specs.Rules as rules;
 ghost use Rattle.mqtt_acl.specs.Answers as answers;
 
-use events::EventAnswer;
 use events::connecting::connected;
 use events::leaving::{disconnected, ended};
 use questions::ask::{connect, publish, subscribe};
 use questions::{ConnectAnswer, PublishAnswer, SubscribeAnswer};
-use rule::agreement::identity;
+use rule::agreement::{Client, identity};
 use rule::read::read_rule;
-use rule::{Given, Identity, Protocol, RuleRead, refusal_number};
-use store::Opened;
+use rule::{Fault, Refusal, refusal_number};
 use store::opening::open;
 
 // A flag: 0 is false, every other number true.
@@ -97,46 +95,41 @@ pub fn mqtt_acl_rule_refusal(line: &[u8]) -> u8
     ensures { result ≡ rules.refusal_of line.now }
 {
     match read_rule(line) {
-        RuleRead::Rule(_) => 0,
-        RuleRead::Refused(cause) => refusal_number(cause),
+        Ok(_) => 0,
+        Err(cause) => refusal_number(cause),
     }
 }
 
-// The whole text, where its flag is true.
-fn given_text(has: u8, text: &[u8]) -> Given
-    ensures { given result text.now ≡ rules.where_true (rules.flag has) text.now }
+// A value of a call, where its flag is true.
+#[tactic(auto, unfolding(crate::specs::Rules::where_true))]
+fn given<T: Copy>(has: u8, value: T) -> Option<T>
+    ensures { result ≡ rules.where_true (rules.flag has) value }
 {
-    if flag(has) {
-        return Given::Length(text.len());
-    }
-    Given::Absent
+    if flag(has) { Some(value) } else { None }
 }
 
-fn given_protocol(has: u8, protocol: u8) -> Protocol
-    ensures { result ≡ placed_protocol (rules.where_true (rules.flag has) protocol) }
+// The same of a text.
+#[tactic(auto, unfolding(crate::specs::Rules::where_true))]
+fn given_text(has: u8, text: &[u8]) -> Option<&[u8]>
+    ensures { option_copied result ≡ rules.where_true (rules.flag has) text.now }
 {
-    if flag(has) {
-        return Protocol::Is(protocol);
-    }
-    Protocol::Any
+    given(has, text)
 }
 
-fn identity_number(answer: Identity) -> u8
+#[tactic(auto, unfolding(crate::specs::Rules::identity_number))]
+fn identity_number(answer: Option<bool>) -> u8
     ensures { result ≡ rules.identity_number answer }
 {
     match answer {
-        Identity::Differs => 0,
-        Identity::Agrees(superuser) => {
-            if superuser {
-                return 2;
-            }
-            1
-        }
+        None => 0,
+        Some(false) => 1,
+        Some(true) => 2,
     }
 }
 
 // Do the users that the line's rule lists agree with the client? 0: they differ; 1: they agree; 2: they agree, with the superuser
 // flag; 3: the line is no rule. An optional text, and the protocol, counts where its flag is true.
+#[tactic(auto, using(crate::proofs::Laws::identity_by_lem), unfolding(crate::specs::Rules::identity_of, crate::proofs::Laws::identity_by))]
 pub fn mqtt_acl_identity(
     line: &[u8],
     id: &[u8],
@@ -151,31 +144,27 @@ pub fn mqtt_acl_identity(
 ) -> u8
     ensures { result ≡ rules.identity_of line.now id.now (rules.where_true (rules.flag has_name) name.now) (rules.where_true (rules.flag has_password) password.now) (rules.where_true (rules.flag has_address) address.now) (rules.where_true (rules.flag has_protocol) protocol) }
 {
-    let RuleRead::Rule(found) = read_rule(line) else {
+    let Ok(found) = read_rule(line) else {
         return 3;
     };
-    let users = found.users;
-    identity_number(identity(
-        line,
-        users,
+    let client = Client::new(
         id,
         given_text(has_name, name),
-        name,
         given_text(has_password, password),
-        password,
         given_text(has_address, address),
-        address,
-        given_protocol(has_protocol, protocol),
-    ))
+        given(has_protocol, protocol),
+    );
+    identity_number(identity(line, found.users, &client))
 }
 
-fn opened_number(answer: Opened) -> u32
+#[tactic(auto, unfolding(crate::specs::Answers::open_number, store::specs::Opening::says))]
+fn opened_number(answer: Result<(), Fault>) -> u32
     requires { answers.open_number (opening.says answer) ≤ 66047 }
     ensures { result ≡ answers.open_number (opening.says answer) }
 {
     match answer {
-        Opened::Done => 0,
-        Opened::Refused(cause, line) => refusal_number(cause) as u32 + 256 * line as u32,
+        Ok(()) => 0,
+        Err(fault) => refusal_number(fault.cause) as u32 + 256 * fault.line as u32,
     }
 }
 
@@ -188,18 +177,19 @@ pub fn mqtt_acl_open(
     notes: u64,
     text: &[u8],
 ) -> u32
-    ensures value { result ≡ answers.open_number (map opening.told (opening.open_fault (record { bytes = bytes; filters = filters; eqs = eqs; notes = notes }) text.now (length store.old))) }
+    ensures value { result ≡ answers.open_number (option_map opening.told (opening.open_fault (record { bytes = bytes; filters = filters; eqs = eqs; notes = notes }) text.now (length store.old))) }
     ensures store_after { store.new ≡ opening.after_open (record { bytes = bytes; filters = filters; eqs = eqs; notes = notes }) text.now store.old }
 {
     opened_number(open(store, bytes, filters, eqs, notes, text))
 }
 
-fn event_number(answer: EventAnswer) -> u8
+#[tactic(auto, unfolding(crate::specs::Answers::event_number, events::specs::Event::says))]
+fn event_number(answer: Result<(), Refusal>) -> u8
     ensures { result ≡ answers.event_number (event.says answer) }
 {
     match answer {
-        EventAnswer::Done => 0,
-        EventAnswer::Refused(cause) => refusal_number(cause),
+        Ok(()) => 0,
+        Err(cause) => refusal_number(cause),
     }
 }
 
@@ -214,7 +204,7 @@ pub fn mqtt_acl_connected(
     ensures value { result ≡ answers.event_number (event.cause (event.connected session id.now (rules.where_true (rules.flag has_name) name.now)) (view store.old)) }
     ensures store_after { store.new ≡ event.after (event.connected session id.now (rules.where_true (rules.flag has_name) name.now)) store.old }
 {
-    event_number(connected(store, session, id, given_text(has_name, name), name))
+    event_number(connected(store, session, id, given_text(has_name, name)))
 }
 
 // A client has disconnected: answers as above.
@@ -241,25 +231,23 @@ fn numbered(value: u64, what: u64) -> u32
     (16 * value + what) as u32
 }
 
-fn connect_number(answer: ConnectAnswer) -> u32
+#[tactic(auto, unfolding(crate::specs::Answers::packed, crate::specs::Answers::decision_number, questions::specs::Answers::connect_says))]
+fn connect_number(answer: Result<ConnectAnswer, Refusal>) -> u32
     requires { answers.packed (said.connect_says answer) ≤ 4111 }
     ensures { result ≡ answers.packed (said.connect_says answer) }
 {
     match answer {
-        ConnectAnswer::Kept(code) => numbered(code, 1),
-        ConnectAnswer::Allow(rule, superuser) => {
-            if superuser {
-                return numbered(rule as u64, 3);
-            }
-            numbered(rule as u64, 2)
-        }
-        ConnectAnswer::Refuse(rule) => numbered(rule as u64, 8),
-        ConnectAnswer::Refused(cause) => numbered(refusal_number(cause) as u64, 0),
+        Ok(ConnectAnswer::Kept(code)) => numbered(code, 1),
+        Ok(ConnectAnswer::Allow(rule, true)) => numbered(rule as u64, 3),
+        Ok(ConnectAnswer::Allow(rule, false)) => numbered(rule as u64, 2),
+        Ok(ConnectAnswer::Refuse(rule)) => numbered(rule as u64, 8),
+        Err(cause) => numbered(refusal_number(cause) as u64, 0),
     }
 }
 
 // May the client connect? The answer is `packed` of specs/Answers.antt: what is answered below 16, the rule 16 times. An optional text counts
 // where its flag is true.
+#[tactic(auto, using(crate::proofs::AnswerLaws::answer_small))]
 pub fn mqtt_acl_connect(
     store: &[u8],
     earlier: u64,
@@ -272,35 +260,33 @@ pub fn mqtt_acl_connect(
     address: &[u8],
     protocol: u8,
 ) -> u32
-    ensures { result ≡ answers.packed (ask (question.connect earlier (record { id = id.now; name = rules.where_true (rules.flag has_name) name.now; password = rules.where_true (rules.flag has_password) password.now; address = rules.where_true (rules.flag has_address) address.now; protocol = some protocol })) store.now) }
+    ensures { result ≡ answers.packed (ask (question.connect earlier (record { id = id.now; name = rules.where_true (rules.flag has_name) name.now; password = rules.where_true (rules.flag has_password) password.now; address = rules.where_true (rules.flag has_address) address.now; protocol = Some protocol })) store.now) }
 {
-    connect_number(connect(
-        store,
-        earlier,
+    let client = Client::new(
         id,
         given_text(has_name, name),
-        name,
         given_text(has_password, password),
-        password,
         given_text(has_address, address),
-        address,
-        protocol,
-    ))
+        Some(protocol),
+    );
+    connect_number(connect(store, earlier, &client))
 }
 
-fn subscribe_number(answer: SubscribeAnswer) -> u32
+#[tactic(auto, unfolding(crate::specs::Answers::packed, crate::specs::Answers::decision_number, questions::specs::Answers::subscribe_says))]
+fn subscribe_number(answer: Result<SubscribeAnswer, Refusal>) -> u32
     requires { answers.packed (said.subscribe_says answer) ≤ 4111 }
     ensures { result ≡ answers.packed (said.subscribe_says answer) }
 {
     match answer {
-        SubscribeAnswer::Kept(code) => numbered(code, 1),
-        SubscribeAnswer::Allow(rule, qos) => numbered(rule as u64, 4 + qos),
-        SubscribeAnswer::Refuse(rule) => numbered(rule as u64, 11),
-        SubscribeAnswer::Refused(cause) => numbered(refusal_number(cause) as u64, 0),
+        Ok(SubscribeAnswer::Kept(code)) => numbered(code, 1),
+        Ok(SubscribeAnswer::Allow(rule, qos)) => numbered(rule as u64, 4 + qos),
+        Ok(SubscribeAnswer::Refuse(rule)) => numbered(rule as u64, 11),
+        Err(cause) => numbered(refusal_number(cause) as u64, 0),
     }
 }
 
 // May the client subscribe to the topic? The protocol counts where its flag is true.
+#[tactic(auto, using(crate::proofs::AnswerLaws::answer_small))]
 pub fn mqtt_acl_subscribe(
     store: &[u8],
     earlier: u64,
@@ -318,40 +304,32 @@ pub fn mqtt_acl_subscribe(
 ) -> u32
     ensures { result ≡ answers.packed (ask (question.subscribe earlier (record { id = id.now; name = rules.where_true (rules.flag has_name) name.now; password = rules.where_true (rules.flag has_password) password.now; address = rules.where_true (rules.flag has_address) address.now; protocol = rules.where_true (rules.flag has_protocol) protocol }) topic.now qos) store.now) }
 {
-    subscribe_number(subscribe(
-        store,
-        earlier,
+    let client = Client::new(
         id,
         given_text(has_name, name),
-        name,
         given_text(has_password, password),
-        password,
         given_text(has_address, address),
-        address,
-        given_protocol(has_protocol, protocol),
-        topic,
-        qos,
-    ))
+        given(has_protocol, protocol),
+    );
+    subscribe_number(subscribe(store, earlier, &client, topic, qos))
 }
 
-fn publish_number(answer: PublishAnswer) -> u32
+#[tactic(auto, unfolding(crate::specs::Answers::packed, crate::specs::Answers::decision_number, questions::specs::Answers::publish_says))]
+fn publish_number(answer: Result<PublishAnswer, Refusal>) -> u32
     requires { answers.packed (said.publish_says answer) ≤ 4111 }
     ensures { result ≡ answers.packed (said.publish_says answer) }
 {
     match answer {
-        PublishAnswer::Kept(code) => numbered(code, 1),
-        PublishAnswer::Allow(rule) => numbered(rule as u64, 7),
-        PublishAnswer::Refuse(rule, disconnect) => {
-            if disconnect {
-                return numbered(rule as u64, 10);
-            }
-            numbered(rule as u64, 9)
-        }
-        PublishAnswer::Refused(cause) => numbered(refusal_number(cause) as u64, 0),
+        Ok(PublishAnswer::Kept(code)) => numbered(code, 1),
+        Ok(PublishAnswer::Allow(rule)) => numbered(rule as u64, 7),
+        Ok(PublishAnswer::Refuse(rule, true)) => numbered(rule as u64, 10),
+        Ok(PublishAnswer::Refuse(rule, false)) => numbered(rule as u64, 9),
+        Err(refusal) => numbered(refusal_number(refusal) as u64, 0),
     }
 }
 
 // May the client publish to the topic? A refusal by a rule carries the disconnect flag.
+#[tactic(auto, using(crate::proofs::AnswerLaws::answer_small))]
 pub fn mqtt_acl_publish(
     store: &[u8],
     earlier: u64,
@@ -369,18 +347,12 @@ pub fn mqtt_acl_publish(
 ) -> u32
     ensures { result ≡ answers.packed (ask (question.publish earlier (record { id = id.now; name = rules.where_true (rules.flag has_name) name.now; password = rules.where_true (rules.flag has_password) password.now; address = rules.where_true (rules.flag has_address) address.now; protocol = rules.where_true (rules.flag has_protocol) protocol }) topic.now (rules.flag disconnect)) store.now) }
 {
-    publish_number(publish(
-        store,
-        earlier,
+    let client = Client::new(
         id,
         given_text(has_name, name),
-        name,
         given_text(has_password, password),
-        password,
         given_text(has_address, address),
-        address,
-        given_protocol(has_protocol, protocol),
-        topic,
-        flag(disconnect),
-    ))
+        given(has_protocol, protocol),
+    );
+    publish_number(publish(store, earlier, &client, topic, flag(disconnect)))
 }

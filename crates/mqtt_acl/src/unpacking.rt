@@ -9,10 +9,7 @@ use crate::yes;
 fn between(n: u64, least: u64, most: u64) -> bool
     ensures { result ≡ between least most n }
 {
-    if n < least {
-        return false;
-    }
-    n <= most
+    least <= n && n <= most
 }
 
 // What is answered: 0 to 15.

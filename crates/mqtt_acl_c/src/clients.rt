@@ -51,7 +51,7 @@ pub extern "C" fn mqtt_acl_expired(
     seconds: u64,
     nanoseconds: u64,
 ) -> u64
-    ensures { result ≡ clients.expiry_number (expiry.expiry (clients.expiry_of (flag has_expiry) expiry_seconds expiry_nanoseconds) seconds nanoseconds) }
+    ensures { result ≡ clients.expiry_number (expiry.expiry (clients.expiry_of (flag has_expiry) expiry_seconds expiry_nanoseconds) (record { seconds = seconds; nanoseconds = nanoseconds })) }
 {
     mqtt_acl::clients::mqtt_acl_expired(
         has_expiry,

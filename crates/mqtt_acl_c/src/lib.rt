@@ -6,8 +6,8 @@ mod clients;
 mod hosts;
 mod unpacking;
 
-ghost use Rattle.std.specs.Prelude.{◌≡◌, length};
-ghost use Rattle.std.proofs.Math.Option.{some, map};
+ghost use Rattle.std.specs.Prelude.{◌≡◌, length, Some};
+ghost use Rattle.std.specs.Option.{option_map};
 ghost use Rattle.json_text.specs.Json.{line_value};
 ghost use Rattle.json_text.specs.Access.{is_document, document_within};
 ghost use Rattle.topic.specs.Topic as spec;
@@ -116,7 +116,7 @@ pub extern "C" fn mqtt_acl_open(
     notes: u64,
     text: &[u8],
 ) -> u32
-    ensures value { result ≡ answers.open_number (map opening.told (opening.open_fault (record { bytes = bytes; filters = filters; eqs = eqs; notes = notes }) text.now (length store.old))) }
+    ensures value { result ≡ answers.open_number (option_map opening.told (opening.open_fault (record { bytes = bytes; filters = filters; eqs = eqs; notes = notes }) text.now (length store.old))) }
     ensures store_after { store.new ≡ opening.after_open (record { bytes = bytes; filters = filters; eqs = eqs; notes = notes }) text.now store.old }
 {
     mqtt_acl::mqtt_acl_open(store, bytes, filters, eqs, notes, text)
@@ -170,7 +170,7 @@ pub extern "C" fn mqtt_acl_connect(
     address: &[u8],
     protocol: u8,
 ) -> u32
-    ensures { result ≡ answers.packed (ask (question.connect earlier (record { id = id.now; name = rules.where_true (rules.flag has_name) name.now; password = rules.where_true (rules.flag has_password) password.now; address = rules.where_true (rules.flag has_address) address.now; protocol = some protocol })) store.now) }
+    ensures { result ≡ answers.packed (ask (question.connect earlier (record { id = id.now; name = rules.where_true (rules.flag has_name) name.now; password = rules.where_true (rules.flag has_password) password.now; address = rules.where_true (rules.flag has_address) address.now; protocol = Some protocol })) store.now) }
 {
     mqtt_acl::mqtt_acl_connect(
         store,

@@ -3,60 +3,38 @@ use Prim.Native.Nat.{ℕ, suc, ◌+◌, ◌-◌, ◌*◌, ◌≤◌, ◌<◌}
 use mathlib.Core.Path.{◌≡◌, refl, sym, ap, ◌∙◌}
 use mathlib.Core.Bool.{Bool, true, false, ◌||◌, cond, or-true}
 use mathlib.Core.List.{List, [], ◌∷◌}
-use mathlib.Core.Option.{Option, none, some}
+use Rattle.std.specs.Prelude.{Option, None, Some, Result, Err, IsErrAnd, ok_or}
+use Rattle.std.proofs.lemmas.Result.{err_from_is_err_and}
 use native.Mathlib.Omega.{arith}
-use borrow.Author.Tests.{ltb-true, ltb-false, lt-ltb, le-ltb, eq-eqb, ne_eqb, eqb-false}
-use lib.Dec.{ltb, eqb}
-use lib.ListN.{length, take, drop, length-take}
+use borrow.Author.Tests.{eq-eqb, ne_eqb, eqb-false}
+use lib.Dec.{eqb}
+use lib.ListN.{length, take, drop}
 use Rattle.json_text.specs.Lines.{lines}
 use Rattle.table.specs.Table.{some_row}
 use Rattle.rule.specs.RuleText.{rules_of}
 use Rattle.rule.specs.Rule.{Meaning}
 use Rattle.rule.specs.Identity.{Client, superuser}
-use Rattle.rule.specs.Places.{given}
 use Rattle.rule.specs.Refusals.{first}
-use Rattle.rule.specs.declared.Given.{Given}
-use Rattle.rule.specs.declared.Given.TheVariants.{Absent, Length}
+use Rattle.rule.specs.declared.Refusal.{Refusal}
+use Rattle.rule.specs.declared.Refusal.TheVariants.{Malformed}
 use Rattle.store.specs.Store.{filter_size, eq_size, store_length, View}
 use Rattle.store.specs.Layout.{layout, filters_at, eqs_at}
 use Rattle.store.specs.View.{view}
 use Rattle.store.specs.Check.{shape_of}
 use Rattle.store.specs.declared.Shape.{Shape}
-use Rattle.store.specs.declared.ShapeRead.TheVariants.{LaidOut, Malformed}
 use Rattle.store.proofs.LayoutLaws.{Fits, well_formed_parts, openable_parts, well_formed-fits}
 use Rattle.store.proofs.PartLaws.{text_read, filters_read, eqs_read, shape_of_lem, shape_is, seen_as, malformed_told, bounds_told}
 use Rattle.store.proofs.ViewLaws.{view-layout, view-well_formed}
-use Rattle.questions.specs.Question.{Question, Decision, kept, Reply, refuses, decides, connects, subscribes, publishes, code_limit, over_given, client_over, question_cause}
+use Rattle.questions.specs.Question.{Question, Decision, kept, Reply, refuses, decides, connects, subscribes, publishes, code_limit, question_cause}
 use Rattle.questions.specs.Question as question
 use Rattle.questions.specs.Decision.{Wish, client, wish, keeps, first_from, refusal, allowance, by_rule, or_kept, decide, decided, ask_view, ask}
 use Rattle.questions.specs.Parts.{filter_rows, eq_rows, every_rule, deciding_of, deciding, deciding_on}
 use Rattle.questions.specs.declared.Deciding.{Deciding}
-use Rattle.questions.specs.declared.Deciding.TheVariants.{Rule as ByRule, NoRule}
 use Rattle.questions.proofs.PassLaws.{faultless_every}
-
--- ---- an optional text over its limit
-
-pub absent_over : {text : Given} (lent : List ℕ) (limit : ℕ) → text ≡ Absent → over_given limit (given text lent) ≡ false
-unfolding over_given given
-absent_over lent limit e = rw e
-
--- the length that is told is within the limit
-pub within_over : {text : Given} {n : ℕ} (lent : List ℕ) (limit : ℕ) → text ≡ Length n → n ≤ limit → over_given limit (given text lent) ≡ false
-unfolding over_given given
-within_over {n = n} lent limit e h = rw e (le-ltb limit (length (take n lent)) (omega (arith, length-take n lent)))
-
--- else the slice's own length decides
-pub length_over : {text : Given} {n : ℕ} (lent : List ℕ) (limit : ℕ) → text ≡ Length n → limit < n → over_given limit (given text lent) ≡ ltb limit (length lent)
-unfolding over_given given
-length_over {n = n} lent limit e h = rw e (at (ltb limit (length lent)) refl)
-  where
-    at : (b : Bool) → ltb limit (length lent) ≡ b → ltb limit (length (take n lent)) ≡ b
-    at true q = lt-ltb limit (length (take n lent)) (omega (arith, length-take n lent, ltb-true limit (length lent) q))
-    at false q = le-ltb limit (length (take n lent)) (omega (arith, length-take n lent, ltb-false limit (length lent) q))
 
 -- ---- a store whose shape is known
 
-module _ (s : List ℕ) {shape : Shape} {v : View} (e : shape_of (view s) ≡ LaidOut shape) (h : view s ≡ some v) where
+module _ (s : List ℕ) {shape : Shape} {v : View} (e : shape_of (view s) ≡ Some shape) (h : view s ≡ Some v) where
   -- the shape is that of what the store means
   is_shape : shape ≡ shape_of_lem v
   is_shape = shape_is (view s) e h
@@ -80,7 +58,7 @@ module _ (s : List ℕ) {shape : Shape} {v : View} (e : shape_of (view s) ≡ La
   eqs_are p = rw (is_shape, ← laid_out) (eqs_read v fits (p ∙ ap (λ (x : Shape). eqs_at x.counts) is_shape))
 
   -- what decides on the parts decides on what the store means
-  pub decides_on : {filters eqs : ℕ} {answer : Deciding} (c : Client) (w : Wish) → filters ≡ filters_at shape.counts → eqs ≡ eqs_at shape.counts
+  pub decides_on : {filters eqs : ℕ} {answer : Option Deciding} (c : Client) (w : Wish) → filters ≡ filters_at shape.counts → eqs ≡ eqs_at shape.counts
       → answer ≡ deciding c w (take (16 + shape.text - 16) (drop 16 s)) (take (filters + shape.filters * filter_size - filters) (drop filters s)) (take (eqs + shape.eqs * eq_size - eqs) (drop eqs s))
       → answer ≡ deciding_on c w v
   unfolding deciding deciding_on
@@ -90,7 +68,7 @@ module _ (s : List ℕ) {shape : Shape} {v : View} (e : shape_of (view s) ≡ La
       r ∙ (λ i. deciding_of (first_from (λ t. some_row t (f i)) (λ t. some_row t (g i)) c w 0 (rules_of (text_is i))))
 
 -- the rule text's lines are rules
-pub text_rules : (s : List ℕ) {shape : Shape} → shape_of (view s) ≡ LaidOut shape → every_rule (lines (take (16 + shape.text - 16) (drop 16 s))) ≡ true
+pub text_rules : (s : List ℕ) {shape : Shape} → shape_of (view s) ≡ Some shape → every_rule (lines (take (16 + shape.text - 16) (drop 16 s))) ≡ true
 text_rules s e =
     let v = seen_as (view s) _ e in
     let opens = (well_formed_parts v.seen (view-well_formed s v.seen v.is)).head in
@@ -102,7 +80,7 @@ pub record Within (s : List ℕ) (shape : Shape) : Type 0 where
   pub filters : filters_at shape.counts + shape.filters * filter_size ≤ length s
   pub eqs : eqs_at shape.counts + shape.eqs * eq_size ≤ length s
 
-pub within : (s : List ℕ) {shape : Shape} → shape_of (view s) ≡ LaidOut shape → Within s shape
+pub within : (s : List ℕ) {shape : Shape} → shape_of (view s) ≡ Some shape → Within s shape
 unfolding filters_at eqs_at store_length
 within s e =
     let b = bounds_told s refl e in
@@ -112,28 +90,28 @@ within s e =
 
 -- "The first cause in the order listed gives the number"
 module _ (q : Question) (s : List ℕ) where
-  pub refuses_by : {n : ℕ} → question_cause q ≡ some n → ask q s ≡ refuses n 0
+  pub refuses_by : {n : ℕ} → question_cause q ≡ Some n → ask q s ≡ refuses n 0
   unfolding ask ask_view
-  refuses_by e = λ i. elim (e i) as (λ _. Reply) [ none ↦ decided q (view s) | some n ↦ refuses n 0 ]
+  refuses_by e = λ i. elim (e i) as (λ _. Reply) [ None ↦ decided q (view s) | Some n ↦ refuses n 0 ]
 
-  module _ (e : question_cause q ≡ none) where
+  module _ (e : question_cause q ≡ None) where
     decided_by_lem : {o : Option View} → view s ≡ o → ask q s ≡ decided q o
     unfolding ask ask_view
-    decided_by_lem h = λ i. elim (e i) as (λ _. Reply) [ none ↦ decided q (h i) | some n ↦ refuses n 0 ]
+    decided_by_lem h = λ i. elim (e i) as (λ _. Reply) [ None ↦ decided q (h i) | Some n ↦ refuses n 0 ]
 
-    pub refuses_malformed : view s ≡ none → ask q s ≡ refuses 3 0
+    pub refuses_malformed : view s ≡ None → ask q s ≡ refuses 3 0
     unfolding decided
     refuses_malformed h = decided_by_lem h
 
-    pub malformed_by : shape_of (view s) ≡ Malformed → ask q s ≡ refuses 3 0
+    pub malformed_by : shape_of (view s) ≡ None → ask q s ≡ refuses 3 0
     malformed_by h = refuses_malformed (malformed_told s refl h)
 
     -- of a store as laid out
-    pub keeps_by : {v : View} {code : ℕ} → view s ≡ some v → keeps q ≡ some code → ask q s ≡ decides (kept code)
+    pub keeps_by : {v : View} {code : ℕ} → view s ≡ Some v → keeps q ≡ Some code → ask q s ≡ decides (kept code)
     unfolding decided decide or_kept
     keeps_by h k = decided_by_lem h ∙ rw k
 
-    pub decides_by : {v : View} → view s ≡ some v → keeps q ≡ none
+    pub decides_by : {v : View} → view s ≡ Some v → keeps q ≡ None
         → ask q s ≡ decides (by_rule q (first_from (λ p. some_row p v.filters) (λ p. some_row p v.eqs) (client q) (wish q) 0 (rules_of v.text)))
     unfolding decided decide or_kept
     decides_by h k = decided_by_lem h ∙ rw k
@@ -144,9 +122,9 @@ allowed (question.connect earlier c) n flag = connects n flag
 allowed (question.subscribe earlier c topic qos) n flag = subscribes n qos
 allowed (question.publish earlier c topic disconnect) n flag = publishes n
 
-unfoldable pub decided_by : Question → Deciding → Decision
-decided_by q NoRule = refusal q 0
-decided_by q (ByRule n allow flag) = cond allow (allowed q n flag) (refusal q n)
+unfoldable pub decided_by : Question → Option Deciding → Decision
+decided_by q None = refusal q 0
+decided_by q (Some d) = cond d.allow (allowed q d.rule d.superuser) (refusal q d.rule)
 
 allows : (q : Question) (n : ℕ) (r : Meaning) → allowance q n r ≡ allowed q n (superuser r)
 unfolding allowance allowed
@@ -156,52 +134,61 @@ allows (question.publish earlier c topic disconnect) n r = refl
 
 by_rule_lem : (q : Question) (o : Option (ℕ × Meaning)) → by_rule q o ≡ decided_by q (deciding_of o)
 unfolding by_rule decided_by deciding_of
-by_rule_lem q none = refl
-by_rule_lem q (some f) = ap (λ (d : Decision). cond f.1.allow d (refusal q (suc f.0))) (allows q (suc f.0) f.1)
+by_rule_lem q None = refl
+by_rule_lem q (Some f) = ap (λ (d : Decision). cond f.1.allow d (refusal q (suc f.0))) (allows q (suc f.0) f.1)
 
 -- of a store with a shape
-pub keeps_laid : {shape : Shape} {code : ℕ} (q : Question) (s : List ℕ) → question_cause q ≡ none → shape_of (view s) ≡ LaidOut shape → keeps q ≡ some code
+pub keeps_laid : {shape : Shape} {code : ℕ} (q : Question) (s : List ℕ) → question_cause q ≡ None → shape_of (view s) ≡ Some shape → keeps q ≡ Some code
     → ask q s ≡ decides (kept code)
 keeps_laid q s e laid k = keeps_by q s e (seen_as (view s) _ laid).is k
 
 -- what is known once `deciding_on` has answered
-pub record Asks (q : Question) (s : List ℕ) (shape : Shape) (answer : Deciding) : Type 0 where
-  pub cause : question_cause q ≡ none
-  pub laid : shape_of (view s) ≡ LaidOut shape
-  pub new : keeps q ≡ none
-  pub told : (v : View) → view s ≡ some v → answer ≡ deciding_on (client q) (wish q) v
+pub record Asks (q : Question) (s : List ℕ) (shape : Shape) (answer : Option Deciding) : Type 0 where
+  pub cause : question_cause q ≡ None
+  pub laid : shape_of (view s) ≡ Some shape
+  pub new : keeps q ≡ None
+  pub told : (v : View) → view s ≡ Some v → answer ≡ deciding_on (client q) (wish q) v
 
-module _ {q : Question} {s : List ℕ} {shape : Shape} {answer : Deciding} (a : Asks q s shape answer) where
-  decided_laid : {known : Deciding} → answer ≡ known → ask q s ≡ decides (decided_by q known)
+module _ {q : Question} {s : List ℕ} {shape : Shape} {answer : Option Deciding} (a : Asks q s shape answer) where
+  decided_laid : {known : Option Deciding} → answer ≡ known → ask q s ≡ decides (decided_by q known)
   unfolding deciding_on
   decided_laid d =
       let v = seen_as (view s) _ a.laid in
       decides_by q s a.cause v.is a.new ∙ ap decides (by_rule_lem q _ ∙ ap (decided_by q) (sym (a.told v.seen v.is) ∙ d))
 
-  pub none_laid : answer ≡ NoRule → ask q s ≡ decides (refusal q 0)
+  pub none_laid : answer ≡ None → ask q s ≡ decides (refusal q 0)
   unfolding decided_by
   none_laid d = decided_laid d
 
-  pub allows_laid : {n : ℕ} {allow flag : Bool} → answer ≡ ByRule n allow flag → allow ≡ true → ask q s ≡ decides (allowed q n flag)
+  pub allows_laid : {n : ℕ} {allow flag : Bool} → answer ≡ Some (record { rule = n; allow = allow; superuser = flag }) → allow ≡ true → ask q s ≡ decides (allowed q n flag)
   unfolding decided_by
   allows_laid d h = decided_laid d ∙ rw h
 
-  pub refuses_laid : {n : ℕ} {allow flag : Bool} → answer ≡ ByRule n allow flag → allow ≡ false → ask q s ≡ decides (refusal q n)
+  pub refuses_laid : {n : ℕ} {allow flag : Bool} → answer ≡ Some (record { rule = n; allow = allow; superuser = flag }) → allow ≡ false → ask q s ≡ decides (refusal q n)
   unfolding decided_by
   refuses_laid d h = decided_laid d ∙ rw h
+
+-- what `?` passes on where `ok_or` found no shape
+pub malformed_answer : {A : Type 0} {answer : Result A Refusal} {shape : Option Shape} {cause : Refusal} → IsErrAnd answer (λ y. y ≡ cause)
+    → Err cause ≡ ok_or shape Malformed → shape ≡ None → answer ≡ Err Malformed
+malformed_answer {answer = answer} {shape} {cause} h e n =
+    let told = err_from_is_err_and answer h in
+    let known : Err cause ≡ ok_or None Malformed = rw n at e in
+    let is : cause ≡ Malformed = cc in
+    told.1 ∙ ap Err (told.2 ∙ is)
 
 -- ---- number 1, then number 2
 
 module _ (long wrong : Bool) where
-  pub first-long : long ≡ true → first ((long, 1) ∷ (wrong, 2) ∷ []) ≡ some 1
+  pub first-long : long ≡ true → first ((long, 1) ∷ (wrong, 2) ∷ []) ≡ Some 1
   unfolding first
   first-long e = rw e
 
-  pub first-wrong : long ≡ false → wrong ≡ true → first ((long, 1) ∷ (wrong, 2) ∷ []) ≡ some 2
+  pub first-wrong : long ≡ false → wrong ≡ true → first ((long, 1) ∷ (wrong, 2) ∷ []) ≡ Some 2
   unfolding first
   first-wrong e h = rw (e, h)
 
-  pub first-none : long ≡ false → wrong ≡ false → first ((long, 1) ∷ (wrong, 2) ∷ []) ≡ none
+  pub first-none : long ≡ false → wrong ≡ false → first ((long, 1) ∷ (wrong, 2) ∷ []) ≡ None
   unfolding first
   first-none e h = rw (e, h)
 
@@ -215,28 +202,22 @@ either_second a b e = rw e (or-true a)
 pub neither : (a b : Bool) → a ≡ false → b ≡ false → (a || b) ≡ false
 neither a b e h = rw (e, h)
 
--- number 1 doesn't look at the protocol
-pub client_told : {answer known : Bool} (c : Client)
-    → answer ≡ client_over (record { id = c.id; name = c.name; password = c.password; address = c.address; protocol = none }) → answer ≡ known → client_over c ≡ known
-unfolding client_over
-client_told c e q = sym e ∙ q
-
 -- ---- earlier codes
 
 -- "Connect's 3 and 4 .. are returned as kept"
-pub connect_kept : (n : ℕ) → 3 ≤ n → n ≤ 4 → cond (eqb n 3 || eqb n 4) (some n) none ≡ some n
+pub connect_kept : (n : ℕ) → 3 ≤ n → n ≤ 4 → cond (eqb n 3 || eqb n 4) (Some n) None ≡ Some n
 connect_kept n h k = at (eqb n 3) refl
   where
-    at : (b : Bool) → eqb n 3 ≡ b → cond (b || eqb n 4) (some n) none ≡ some n
+    at : (b : Bool) → eqb n 3 ≡ b → cond (b || eqb n 4) (Some n) None ≡ Some n
     at true e = refl
     at false e = let is : n ≡ 4 = omega (arith, eqb-false n 3 e) in rw (eq-eqb n 4 is)
 
-pub connect_new : (n : ℕ) → n < 3 → cond (eqb n 3 || eqb n 4) (some n) none ≡ none
+pub connect_new : (n : ℕ) → n < 3 → cond (eqb n 3 || eqb n 4) (Some n) None ≡ None
 connect_new n h = rw (ne_eqb n 3 (λ e. omega arith), ne_eqb n 4 (λ e. omega arith))
 
 -- "and the others' 2"
-pub code_kept : (n : ℕ) → n ≡ code_limit → cond (eqb n code_limit) (some n) none ≡ some n
+pub code_kept : (n : ℕ) → n ≡ code_limit → cond (eqb n code_limit) (Some n) None ≡ Some n
 code_kept n e = rw (eq-eqb n code_limit e)
 
-pub code_new : (n : ℕ) → (n ≡ code_limit → ⊥) → cond (eqb n code_limit) (some n) none ≡ none
+pub code_new : (n : ℕ) → (n ≡ code_limit → ⊥) → cond (eqb n code_limit) (Some n) None ≡ None
 code_new n h = rw (ne_eqb n code_limit h)

@@ -2,52 +2,47 @@
 -- Assumes nothing.
 use Prim.Native.Nat.{ℕ, suc, ◌+◌, ◌-◌, ◌<◌}
 use native.Mathlib.Omega.{arith}
-use mathlib.Core.Path.{◌≡◌, refl, sym, ap, subst, ◌∙◌}
+use mathlib.Core.Path.{◌≡◌, refl, sym, ap, ◌∙◌}
 use mathlib.Core.Bool.{Bool, true, false, ◌&&◌, ◌||◌, not, cond}
 use mathlib.Core.List.{List, [], ◌∷◌}
-use mathlib.Core.Option.{Option, none, some, bind}
+use Rattle.std.specs.Prelude.{Option, None, Some, Result, Ok, Err}
+use Rattle.text.specs.Maybe.{bind}
 use lib.Dec.{ltb}
 use lib.ListN.{length, take, drop}
 use Rattle.text.specs.Text.{same}
 use Rattle.topic.specs.Topic.{levels, levels_if, valid_filter, levels_match, checked_levels, tree_match}
 use Rattle.json_text.specs.Json.{depth_limit, line_value}
 use Rattle.json_text.specs.Access.{next_item}
-use Rattle.json_text.specs.Lines.{lines, line_at, line_behind, next_line}
-use Rattle.json_text.specs.declared.Place.{Place}
-use Rattle.json_text.specs.declared.Place.TheVariants.{At}
-use Rattle.json_text.proofs.LineLaws.{lines_here, next_from_end}
+use Rattle.json_text.specs.Lines.{lines}
+use Rattle.json_text.proofs.LineLaws.{lines_here}
 use Rattle.json_text.proofs.PlainLaws.{Plain, plain_value}
 use Rattle.json_text.proofs.ValueLaws.{value_deeper}
 use Rattle.rule.specs.Limits.{text_limit, lines_limit}
 use Rattle.rule.specs.Rule as spec
 use Rattle.rule.specs.Rule.{Value, is_template, as_text, as_object, topic_of, topic_means}
-use Rattle.rule.specs.RuleText.{Result, refused, gives, Fault, read_rule, fault_in, text_fault}
+use Rattle.rule.specs.RuleText.{read_rule, fault_in, text_fault}
+use Rattle.rule.specs.declared.Fault.{Fault}
 use Rattle.rule.specs.Agreement.{identity_at}
+use Rattle.rule.specs.Identity.{Client}
 use Rattle.rule.specs.Places.{value_of, placed_rule, fourth_of, rule_answer}
 use Rattle.rule.specs.Front.{item_behind, FrontTo, RestFrom, EqTo}
 use Rattle.rule.specs.declared.Refusal.TheVariants.{TooLong}
 use Rattle.rule.specs.declared.Control.{Control}
-use Rattle.rule.specs.declared.Topics.{Topics}
 use Rattle.rule.specs.declared.Users.{Users}
-use Rattle.rule.specs.declared.Protocol.{Protocol}
-use Rattle.rule.specs.declared.Identity.{Identity}
-use Rattle.rule.specs.declared.Identity.TheVariants.{Agrees as Means, Differs as MeansNot}
 use Rattle.rule.specs.declared.Rule.{Rule}
 use Rattle.rule.proofs.OnePassLaws.{value_there, eq_object, eq_value, eq_topic}
 use Rattle.rule.proofs.FrontLaws.{next_behind, read_here, Fronted, front_is}
 use Rattle.store.specs.Store.{over}
 use Rattle.store.specs.View.{faultless}
 use Rattle.questions.specs.Decision.{static_agrees}
-use Rattle.questions.specs.Parts.{covers_asked, topics_for, head_at, WhereHead, is_rule, every_rule, topic_agrees_at, text_agrees, eq_text_agrees, passed_topic, some_topic_from}
+use Rattle.questions.specs.Parts.{covers_asked, topics_for, head_at, is_rule, every_rule, topic_agrees_at, text_agrees, eq_text_agrees, passed_topic, some_topic_from}
 use Rattle.questions.specs.declared.Asked.{Asked}
 use Rattle.questions.specs.declared.Head.{Head}
-use Rattle.questions.specs.declared.Head.TheVariants.{Agrees, Differs}
-use Rattle.questions.specs.declared.HeadRead.{HeadRead}
-use Rattle.questions.specs.declared.HeadRead.TheVariants.{Is as HeadIs}
 use Rattle.questions.specs.declared.TopicPassed.{TopicPassed}
 use Rattle.questions.specs.declared.TopicPassed.TheVariants.{Agrees as TopicAgrees, Onward}
-use Rattle.questions.proofs.HeadLaws.{client, head_with, head_read}
-use Rattle.questions.proofs.DecisionLaws.{some_by}
+use Rattle.questions.proofs.HeadLaws.{head_with, head_read}
+use Rattle.questions.proofs.DecisionLaws.{LineHere, some_by}
+use Rattle.rule.specs.declared.Refusal.{Refusal}
 
 -- ---- a filter as it stands
 
@@ -56,18 +51,12 @@ pub known_match : (filter topic : List ℕ) {valid : Bool} → valid ≡ valid_f
 unfolding tree_match checked_levels
 known_match filter topic e = ap (λ (b : Bool). levels_match (levels filter) (levels_if b topic)) e
 
--- by its tests
-pub text_by : (topic t : List ℕ) {match long template fine : Bool} → tree_match t topic ≡ match → over text_limit t ≡ long → is_template t ≡ template → valid_filter t ≡ fine
-    → text_agrees topic t ≡ (match && (not long && (not template && fine)))
-unfolding text_agrees
-text_by topic t m l p f = λ i. m i && (not (l i) && (not (p i) && f i))
-
 module _ (topic line : List ℕ) (at : ℕ) where
   -- a plain string agrees as its text does
   pub plain_agrees : {end : ℕ} → Plain line at end → topic_agrees_at topic line at ≡ text_agrees topic (take (end - (at + 1)) (drop (at + 1) line))
   unfolding topic_agrees_at text_agrees bind topic_of as_object as_text static_agrees topic_means
   plain_agrees {end} p =
-      ap (λ (o : Option Value). elim (bind o topic_of) as (λ _. Bool) [ none ↦ false | some s ↦ not (over text_limit s.text.text) && static_agrees topic (topic_means s) ])
+      ap (λ (o : Option Value). elim (bind o topic_of) as (λ _. Bool) [ None ↦ false | Some s ↦ not (over text_limit s.text.text) && static_agrees topic (topic_means s) ])
       (value_there depth_limit line at (omega arith) (plain_value depth_limit line at p))
       ∙ (is (is_template t || valid_filter t) ∙ by (is_template t) (valid_filter t) (over text_limit t) (tree_match t topic))
     where
@@ -78,7 +67,7 @@ module _ (topic line : List ℕ) (at : ℕ) where
       filter = record { eq = false; text = record { at = at; text = t } }
 
       is : (b : Bool)
-          → ◌≡◌ {A = Bool} (elim (cond b (some filter) none) [ none ↦ false | some s ↦ not (over text_limit s.text.text) && static_agrees topic (topic_means s) ])
+          → ◌≡◌ {A = Bool} (elim (cond b (Some filter) None) [ None ↦ false | Some s ↦ not (over text_limit s.text.text) && static_agrees topic (topic_means s) ])
           (cond b (not (over text_limit t) && (not (is_template t) && tree_match t topic)) false)
       is true = refl
       is false = refl
@@ -98,27 +87,22 @@ module _ (topic line : List ℕ) (at : ℕ) where
       by false false false false = refl
 
   -- a topic that is passed
-  pub passed_by : {b : Bool} {next : Place} → topic_agrees_at topic line at ≡ b → next_item line at ≡ next → passed_topic topic line at ≡ cond b TopicAgrees (Onward next)
+  pub passed_by : {b : Bool} {next : Option ℕ} → topic_agrees_at topic line at ≡ b → next_item line at ≡ next → passed_topic topic line at ≡ cond b TopicAgrees (Onward next)
   unfolding passed_topic
   passed_by e q = λ i. cond (e i) TopicAgrees (Onward (q i))
 
-  pub passed_plain : {end : ℕ} {b : Bool} {next : Place} → Plain line at end → text_agrees topic (take (end - (at + 1)) (drop (at + 1) line)) ≡ b → item_behind line (end + 1) ≡ next
+  pub passed_plain : {end : ℕ} {b : Bool} {next : Option ℕ} → Plain line at end → text_agrees topic (take (end - (at + 1)) (drop (at + 1) line)) ≡ b → item_behind line (end + 1) ≡ next
       → passed_topic topic line at ≡ cond b TopicAgrees (Onward next)
   passed_plain p e q = passed_by (plain_agrees p ∙ e) (next_behind line at (plain_value depth_limit line at p) ∙ q)
 
--- a text under `eq`, by its tests
-pub eq_text_by : (topic t : List ℕ) {alike long template : Bool} → same t topic ≡ alike → over text_limit t ≡ long → is_template t ≡ template
-    → eq_text_agrees topic t ≡ (alike && (not long && not template))
-unfolding eq_text_agrees
-eq_text_by topic t a l p = λ i. a i && (not (l i) && not (p i))
-
+-- a topic under `eq`
 module _ (topic line : List ℕ) (at : ℕ) {opens closes end : ℕ} (q : EqTo line at opens closes end) where
   eq_topic_agrees : topic_agrees_at topic line at ≡ eq_text_agrees topic (take (closes - (opens + 1)) (drop (opens + 1) line))
   unfolding topic_agrees_at eq_text_agrees static_agrees topic_means bind
   eq_topic_agrees =
       let read : bind (value_of line at) topic_of ≡ topic_of (record { at = at; value = eq_object line at q }) =
       ap (λ (o : Option Value). bind o topic_of) (value_there 6 line at (omega arith) (eq_value line at q)) in
-      ap (λ (o : Option spec.Topic). elim o as (λ _. Bool) [ none ↦ false | some s ↦ not (over text_limit s.text.text) && static_agrees topic (topic_means s) ])
+      ap (λ (o : Option spec.Topic). elim o as (λ _. Bool) [ None ↦ false | Some s ↦ not (over text_limit s.text.text) && static_agrees topic (topic_means s) ])
       (read ∙ eq_topic line at q)
       ∙ by (is_template t) (over text_limit t) (same t topic)
     where
@@ -135,38 +119,35 @@ module _ (topic line : List ℕ) (at : ℕ) {opens closes end : ℕ} (q : EqTo l
       by false false true = refl
       by false false false = refl
 
-  pub passed_eq : {b : Bool} {next : Place} → eq_text_agrees topic (take (closes - (opens + 1)) (drop (opens + 1) line)) ≡ b → item_behind line end ≡ next
+  pub passed_eq : {b : Bool} {next : Option ℕ} → eq_text_agrees topic (take (closes - (opens + 1)) (drop (opens + 1) line)) ≡ b → item_behind line end ≡ next
       → passed_topic topic line at ≡ cond b TopicAgrees (Onward next)
   passed_eq e r = passed_by topic line at (eq_topic_agrees ∙ e) (next_behind line at (value_deeper 6 depth_limit line at (omega arith) (eq_value line at q)) ∙ r)
 
 -- the walk over a rule's topics, by what passing one tells
-module _ (topic line : List ℕ) (most : ℕ) {place : Place} {p : ℕ} (h : 0 < most) (e : place ≡ At p) where
+module _ (topic line : List ℕ) (most turn : ℕ) {place : Option ℕ} {p : ℕ} (h : turn < most) (e : place ≡ Some p) where
   abbrev walked : TopicPassed → Bool
   walked TopicAgrees = true
-  walked (Onward next) = some_topic_from topic (most - 1) line next
+  walked (Onward next) = some_topic_from topic (most - (turn + 1)) line next
 
-  pub some_passed : {passed : TopicPassed} → passed_topic topic line p ≡ passed → some_topic_from topic most line place ≡ walked passed
+  pub some_passed : {passed : TopicPassed} → passed_topic topic line p ≡ passed → some_topic_from topic (most - turn) line place ≡ walked passed
   unfolding passed_topic
-  some_passed q = some_by topic most line h e refl ∙ (by (topic_agrees_at topic line p) ∙ ap walked q)
+  some_passed q = some_by topic most turn line h e refl ∙ (by (topic_agrees_at topic line p) ∙ ap walked q)
     where
-      by : (b : Bool) → (b || some_topic_from topic (most - 1) line (next_item line p)) ≡ walked (cond b TopicAgrees (Onward (next_item line p)))
+      by : (b : Bool) → (b || some_topic_from topic (most - (turn + 1)) line (next_item line p)) ≡ walked (cond b TopicAgrees (Onward (next_item line p)))
       by true = refl
       by false = refl
 
 -- ---- a line that is a rule
 
-rule_read : (line : List ℕ) → is_rule (read_rule line) ≡ true → (r : spec.Rule) × (read_rule line ≡ gives r)
+rule_read : (line : List ℕ) → is_rule (read_rule line) ≡ true → (r : spec.Rule) × (read_rule line ≡ Ok r)
 unfolding is_rule
 rule_read line = by (read_rule line)
   where
-    by : (o : Result spec.Rule) → is_rule o ≡ true → (r : spec.Rule) × (o ≡ gives r)
-    by (refused cause) q = let z : ◌≡◌ {A = ℕ} 0 1 = cc in absurd (omega arith)
-    by (gives r) q = (r, refl)
+    by : (o : Result spec.Rule Refusal) → is_rule o ≡ true → (r : spec.Rule) × (o ≡ Ok r)
+    by (Err cause) q = let z : ◌≡◌ {A = ℕ} 0 1 = cc in absurd (omega arith)
+    by (Ok r) q = (r, refl)
 
-pub head_answered : {r : HeadRead} {h known : Head} → r ≡ HeadIs h → WhereHead r known → h ≡ known
-head_answered {known = known} e w = subst (λ (r : HeadRead). WhereHead r known) e w
-
-module _ (asked : Asked) (line id : List ℕ) (name password address : Option (List ℕ)) (protocol : Protocol) (k : is_rule (read_rule line) ≡ true)
+module _ (asked : Asked) (line : List ℕ) (client : Client) (k : is_rule (read_rule line) ≡ true)
     (allow : Bool) (users : Users) (end : ℕ) (f : FrontTo line allow users end) where
   abbrev rule : Rule
   rule = placed_rule (fourth_of (line_value line)) (rule_read line k).0
@@ -174,71 +155,66 @@ module _ (asked : Asked) (line id : List ℕ) (name password address : Option (L
   fronted : Fronted line allow users end rule
   fronted = front_is f (read_here line (rule_read line k).1)
 
-  head_is : {covered : Bool} {said : Identity} → covers_asked rule.control asked ≡ covered → identity_at line users id name password address protocol ≡ said
-      → head_at (client asked line id name password address protocol) asked line ≡ cond covered (head_with allow (topics_for asked rule.topics) said) Differs
+  head_is : {covered : Bool} {topics : Option ℕ} {said : Option Bool} → covered ≡ covers_asked rule.control asked → topics ≡ topics_for asked rule.topics
+      → said ≡ identity_at line users client → cond covered (head_with allow topics said) None ≡ head_at client asked line
   unfolding rule_answer
-  head_is {covered} {said} p q =
-      head_read asked line id name password address protocol refl (ap (rule_answer (fourth_of (line_value line))) (rule_read line k).1) p
-      (ap (λ (u : Users). identity_at line u id name password address protocol) fronted.means ∙ q)
-      ∙ ap (λ (a : Bool). cond covered (head_with a (topics_for asked rule.topics) said) Differs) fronted.allows
+  head_is {covered} {topics} {said} p t q =
+      ap (λ (a : Bool). cond covered (head_with a topics said) None) (sym fronted.allows)
+      ∙ head_read asked line client (sym (ap (rule_answer (fourth_of (line_value line))) (rule_read line k).1)) refl p t
+      (q ∙ ap (λ (u : Users). identity_at line u client) (sym fronted.means))
 
   -- its users differ
-  pub front_differs : identity_at line users id name password address protocol ≡ MeansNot → head_at (client asked line id name password address protocol) asked line ≡ Differs
+  pub front_differs : None ≡ identity_at line users client → None ≡ head_at client asked line
   unfolding head_with
-  front_differs q = head_is refl q ∙ by (covers_asked rule.control asked)
+  front_differs q = by (covers_asked rule.control asked) ∙ head_is refl refl q
     where
-      by : (b : Bool) → cond b Differs Differs ≡ Differs
+      by : (b : Bool) → None ≡ cond {A = Option Head} b None None
       by true = refl
       by false = refl
 
   -- its users agree, and behind them stand this control and these topics
-  pub front_agrees : {flag covered : Bool} {control : Control} {topics : Topics} → identity_at line users id name password address protocol ≡ Means flag
-      → RestFrom line end control topics → covers_asked control asked ≡ covered
-      → head_at (client asked line id name password address protocol) asked line ≡ cond covered (Agrees allow flag (topics_for asked topics)) Differs
+  pub front_agrees : {flag covered : Bool} {control : Control} {topics left : Option ℕ} → Some flag ≡ identity_at line users client
+      → RestFrom line end control topics → covered ≡ covers_asked control asked → left ≡ topics_for asked topics
+      → cond covered (Some (record { allow = allow; superuser = flag; topics = left })) None ≡ head_at client asked line
   unfolding head_with
-  front_agrees {flag} {covered} q r p =
+  front_agrees q r p t =
       let are = fronted.rest r in
-      head_is (ap (λ (c : Control). covers_asked c asked) are.0 ∙ p) q ∙ ap (λ (t : Topics). cond covered (Agrees allow flag (topics_for asked t)) Differs) are.1
+      head_is (p ∙ ap (λ (c : Control). covers_asked c asked) (sym are.0)) (t ∙ ap (topics_for asked) (sym are.1)) q
 
 -- ---- lines that are rules
 
--- the line that begins at a place, and those behind it
-pub every_here : (rules : List ℕ) (at : ℕ) {line : List ℕ} {next : ℕ} → at < length rules → line ≡ line_at rules at → next ≡ next_line rules at → every_rule (lines (drop at rules)) ≡ true
-    → (is_rule (read_rule line) ≡ true) × (every_rule (lines (drop next rules)) ≡ true)
+-- the line that the walk has come to, and those behind it
+pub every_here : {filters eqs : List ℕ} {c : Client} {asked : Asked} {topic rules : List ℕ} {n at : ℕ} {line : List ℕ} {next : ℕ} → LineHere filters eqs c asked topic rules n at line next
+    → every_rule (lines (drop at rules)) ≡ true → (is_rule (read_rule line) ≡ true) × (every_rule (lines (drop next rules)) ≡ true)
 unfolding every_rule
-every_here rules at {line} {next} h l n e =
+every_here {rules = rules} {at = at} {line = line} {next = next} h e =
     by (is_rule (read_rule line)) (every_rule (lines (drop next rules)))
-    ((λ i. is_rule (read_rule (l i)) && every_rule (lines (drop (n i) rules))) ∙ (ap every_rule (sym (lines_here rules at h)) ∙ e))
+    ((λ i. is_rule (read_rule (h.is i)) && every_rule (lines (drop (h.onward i) rules))) ∙ (ap every_rule (sym (lines_here rules at h.within)) ∙ e))
   where
     by : (a b : Bool) → (a && b) ≡ true → (a ≡ true) × (b ≡ true)
     by true b q = (refl, q)
     by false b q = (q, let z : ◌≡◌ {A = ℕ} 0 1 = cc in absurd (omega arith))
 
 -- a text without a fault
-pub fault_every : (n : ℕ) (ls : List (List ℕ)) → fault_in n ls ≡ none → every_rule ls ≡ true
+pub fault_every : (n : ℕ) (ls : List (List ℕ)) → fault_in n ls ≡ None → every_rule ls ≡ true
 unfolding fault_in every_rule is_rule
 fault_every n [] e = refl
 fault_every n (line ∷ rest) e = by (read_rule line) e (λ q. fault_every (suc n) rest q)
   where
-    by : (o : Result spec.Rule)
-        → ◌≡◌ {A = Option Fault} (elim o [ refused cause ↦ some (record { cause = cause; line = n }) | gives r ↦ fault_in (suc n) rest ]) none
-        → (fault_in (suc n) rest ≡ none → every_rule rest ≡ true) → (is_rule o && every_rule rest) ≡ true
-    by (refused cause) q f = let z : ◌≡◌ {A = ℕ} 0 1 = cc in absurd (omega arith)
-    by (gives r) q f = f q
+    by : (o : Result spec.Rule Refusal)
+        → ◌≡◌ {A = Option Fault} (elim o [ Err cause ↦ Some (record { cause = cause; line = n }) | Ok r ↦ fault_in (suc n) rest ]) None
+        → (fault_in (suc n) rest ≡ None → every_rule rest ≡ true) → (is_rule o && every_rule rest) ≡ true
+    by (Err cause) q f = let z : ◌≡◌ {A = ℕ} 0 1 = cc in absurd (omega arith)
+    by (Ok r) q f = f q
 
 pub faultless_every : (t : List ℕ) → faultless (text_fault t) ≡ true → every_rule (lines t) ≡ true
 unfolding faultless text_fault
 faultless_every t = by (ltb lines_limit (length (lines t))) (record { cause = TooLong; line = suc lines_limit })
   where
-    none_left : (o : Option Fault) → faultless o ≡ true → o ≡ none
-    none_left none q = refl
-    none_left (some x) q = let z : ◌≡◌ {A = ℕ} 0 1 = cc in absurd (omega arith)
+    none_left : (o : Option Fault) → faultless o ≡ true → o ≡ None
+    none_left None q = refl
+    none_left (Some x) q = let z : ◌≡◌ {A = ℕ} 0 1 = cc in absurd (omega arith)
 
-    by : (b : Bool) (x : Fault) → faultless (cond b (some x) (fault_in 1 (lines t))) ≡ true → every_rule (lines t) ≡ true
+    by : (b : Bool) (x : Fault) → faultless (cond b (Some x) (fault_in 1 (lines t))) ≡ true → every_rule (lines t) ≡ true
     by true x q = let z : ◌≡◌ {A = ℕ} 0 1 = cc in absurd (omega arith)
     by false x q = fault_every 1 (lines t) (none_left (fault_in 1 (lines t)) q)
-
--- the place of the next line, from the end of this one
-pub next_line_lem : (rules : List ℕ) (at : ℕ) {line : List ℕ} {next : ℕ} → line ≡ line_at rules at
-    → next ≡ line_behind rules (at + length line) → next ≡ next_line rules at
-next_line_lem rules at l e = next_from_end rules at (ap (λ (s : List ℕ). at + length s) l) e

@@ -1,6 +1,5 @@
 -- The decision: document 01, Plugin decisions; `AclHandler::hook` of lib.rs.
-use Rattle.std.specs.Prelude.{ℕ, suc, Bool, true, false, ◌&&◌, ◌||◌, not, cond, List, [], ◌∷◌, eqb}
-use Rattle.std.proofs.Math.Option.{Option, none, some}
+use Rattle.std.specs.Prelude.{ℕ, suc, Bool, true, false, ◌&&◌, ◌||◌, not, cond, List, [], ◌∷◌, eqb, Option, None, Some}
 use Rattle.text.specs.Text.{same}
 use Rattle.topic.specs.Topic.{tree_match}
 use Rattle.table.specs.Table.{some_row}
@@ -21,9 +20,9 @@ client (publish earlier c topic disconnect) = c
 
 -- "Connect's 3 and 4 and the others' 2 are returned as kept, rule 0; other codes count as 0"
 unfoldable pub keeps : Question → Option ℕ
-keeps (connect earlier c) = cond (eqb earlier 3 || eqb earlier 4) (some earlier) none
-keeps (subscribe earlier c topic qos) = cond (eqb earlier 2) (some earlier) none
-keeps (publish earlier c topic disconnect) = cond (eqb earlier 2) (some earlier) none
+keeps (connect earlier c) = cond (eqb earlier 3 || eqb earlier 4) (Some earlier) None
+keeps (subscribe earlier c topic qos) = cond (eqb earlier 2) (Some earlier) None
+keeps (publish earlier c topic disconnect) = cond (eqb earlier 2) (Some earlier) None
 
 -- what is asked, whatever the earlier answer was: a subscribe and a publish ask for a topic
 pub data Wish : Type 0 where
@@ -68,8 +67,8 @@ module _ (some_filter : (FilterRow → Bool) → Bool) (some_eq : (EqRow → Boo
   -- "Topics agree if all, or the text equals an eq of this rule, static or row, or T-matches one of this rule's static filters or of its
   -- filter rows owned by this client": an empty array has no topic, and its rows count
   unfoldable pub topics_agree : ℕ → List ℕ → List ℕ → Option (List (TopicOf (List ℕ))) → Bool
-  topics_agree n id topic none = true
-  topics_agree n id topic (some topics) =
+  topics_agree n id topic None = true
+  topics_agree n id topic (Some topics) =
       some_row (static_agrees topic) topics || (some_eq (eq_agrees n topic) || some_filter (filter_agrees n id topic))
 
   -- "connect skips topics"
@@ -84,16 +83,16 @@ module _ (some_filter : (FilterRow → Bool) → Bool) (some_eq : (EqRow → Boo
 
   -- the first rule that agrees, with its number, counted from n; a line that is no rule agrees with nothing
   unfoldable pub first_from : Client → Wish → ℕ → List (Option Meaning) → Option (ℕ × Meaning)
-  first_from c w n [] = none
-  first_from c w n (none ∷ rules) = first_from c w (suc n) rules
-  first_from c w n (some r ∷ rules) = cond (rule_agrees c w n r) (some (n, r)) (first_from c w (suc n) rules)
+  first_from c w n [] = None
+  first_from c w n (None ∷ rules) = first_from c w (suc n) rules
+  first_from c w n (Some r ∷ rules) = cond (rule_agrees c w n r) (Some (n, r)) (first_from c w (suc n) rules)
 
 -- "A refused subscribe stands for the Rust's `UnspecifiedError`, every other refusal .. for `NotAuthorized`. A refused publish carries the
 -- caller's disconnect flag"; rules counted from 1
 unfoldable pub refusal : Question → ℕ → Decision
-refusal (connect earlier c) n = not_authorized n none
+refusal (connect earlier c) n = not_authorized n None
 refusal (subscribe earlier c topic qos) n = unspecified_error n
-refusal (publish earlier c topic disconnect) n = not_authorized n (some disconnect)
+refusal (publish earlier c topic disconnect) n = not_authorized n (Some disconnect)
 
 -- "connect allow carries superuser, subscribe allow the asked QoS"
 unfoldable pub allowance : Question → ℕ → Meaning → Decision
@@ -103,12 +102,12 @@ allowance (publish earlier c topic disconnect) n r = publishes n
 
 -- "the first rule whose control, users and topics all agree decides. .. None: refused, rule 0"
 unfoldable pub by_rule : Question → Option (ℕ × Meaning) → Decision
-by_rule q none = refusal q 0
-by_rule q (some f) = cond f.1.allow (allowance q (suc f.0) f.1) (refusal q (suc f.0))
+by_rule q None = refusal q 0
+by_rule q (Some f) = cond f.1.allow (allowance q (suc f.0) f.1) (refusal q (suc f.0))
 
 unfoldable pub or_kept : Option ℕ → Decision → Decision
-or_kept none d = d
-or_kept (some code) d = kept code
+or_kept None d = d
+or_kept (Some code) d = kept code
 
 -- the decision on a rule text and tests of rows
 unfoldable pub decide : Question → List ℕ → ((FilterRow → Bool) → Bool) → ((EqRow → Bool) → Bool) → Reply
@@ -116,12 +115,12 @@ decide q text some_filter some_eq = decides (or_kept (keeps q) (by_rule q (first
 
 -- "3 store not as laid out"
 unfoldable pub decided : Question → Option View → Reply
-decided q none = refuses 3 0
-decided q (some v) = decide q v.text (λ p. some_row p v.filters) (λ p. some_row p v.eqs)
+decided q None = refuses 3 0
+decided q (Some v) = decide q v.text (λ p. some_row p v.filters) (λ p. some_row p v.eqs)
 
 -- 1 and 2 come before 3
 unfoldable pub ask_view : Question → Option View → Reply
-ask_view q o = elim (question_cause q) [ none ↦ decided q o | some n ↦ refuses n 0 ]
+ask_view q o = elim (question_cause q) [ None ↦ decided q o | Some n ↦ refuses n 0 ]
 
 unfoldable pub ask : Question → List ℕ → Reply
 ask q s = ask_view q (view s)

@@ -1,7 +1,6 @@
 -- Questions and what is answered: document 01, Plugin decisions and Refusals by operation, Questions. A form that a later request adds is one
 -- more constructor of `Question`.
-use Rattle.std.specs.Prelude.{ℕ, Bool, false, ◌||◌, List, [], ◌∷◌, ltb}
-use Rattle.std.proofs.Math.Option.{Option, none, some}
+use Rattle.std.specs.Prelude.{ℕ, Bool, false, ◌||◌, List, [], ◌∷◌, ltb, Option, None, Some}
 use Rattle.rule.specs.Limits.{text_limit, id_limit}
 use Rattle.rule.specs.Identity.{Client}
 use Rattle.rule.specs.Refusals.{first}
@@ -46,8 +45,8 @@ abbrev pub qos_limit : ℕ
 qos_limit = 2
 
 unfoldable pub over_given : ℕ → Option (List ℕ) → Bool
-over_given limit none = false
-over_given limit (some t) = over limit t
+over_given limit None = false
+over_given limit (Some t) = over limit t
 
 -- "1 id or name over 64, password over 128, address over 45"
 unfoldable pub client_over : Client → Bool

@@ -1,11 +1,10 @@
 // The three questions on a store: number 1 and 2 by their arguments, 3 by the store, then kept, then the deciding rule.
-ghost use Rattle.std.specs.Prelude.{◌≡◌};
-ghost use Rattle.std.proofs.Math.Option.{none, some};
-ghost use Rattle.rule.specs.Places.{given};
+// Each writes these steps out: a function for what they share would have to answer by more cases than it saves lines.
+ghost use Rattle.std.specs.Prelude.{◌≡◌, None, Some};
+ghost use Rattle.std.specs.Option.{option_copied};
 ghost use Rattle.store.specs.Store.{View};
 ghost use Rattle.store.specs.View.{view};
 ghost use Rattle.store.specs.Check.{shape_of};
-ghost use Rattle.store.specs.declared.ShapeRead.«TheVariants».{LaidOut};
 ghost use Rattle.questions.specs.Question as question;
 ghost use Rattle.questions.specs.Decision as decision;
 ghost use Rattle.questions.specs.Answers as answers;
@@ -13,8 +12,9 @@ ghost use Rattle.questions.specs.Parts as spec;
 
 use crate::decision::deciding_in;
 use crate::{Asked, ConnectAnswer, Deciding, PublishAnswer, SubscribeAnswer};
-use rule::{Given, ID, Protocol, Refusal, TEXT};
-use store::{Counts, Shape, ShapeRead, check};
+use rule::agreement::Client;
+use rule::{ID, Refusal, TEXT};
+use store::{Counts, Shape, check};
 
 // "Password over 128, address over 45."
 const PASSWORD: usize = 128;
@@ -31,42 +31,22 @@ const CODE: u64 = 2;
 const QOS: u64 = 2;
 
 // Is a text that is given over the limit?
-fn given_over(text: Given, lent: &[u8], limit: usize) -> bool
-    ensures { result ≡ question.over_given limit (given text lent.now) }
+#[tactic(auto, unfolding(crate::specs::Question::over_given, store::specs::Store::over))]
+fn given_over(text: Option<&[u8]>, limit: usize) -> bool
+    ensures { result ≡ question.over_given limit (option_copied text.entry) }
 {
-    match text {
-        Given::Absent => false,
-        Given::Length(n) => {
-            if limit < n {
-                return limit < lent.len();
-            }
-            false
-        }
-    }
+    text.is_some_and(|text| limit < text.len())
 }
 
 // "1 id or name over 64, password over 128, address over 45."
-fn client_over(
-    id: &[u8],
-    name: Given,
-    names: &[u8],
-    password: Given,
-    passwords: &[u8],
-    address: Given,
-    addresses: &[u8],
-) -> bool
-    ensures { result ≡ question.client_over (record { id = id.now; name = given name names.now; password = given password passwords.now; address = given address addresses.now; protocol = none }) }
+#[tactic(auto, unfolding(crate::specs::Question::client_over, store::specs::Store::over))]
+fn client_over(client: &Client) -> bool
+    ensures { result ≡ question.client_over client.now }
 {
-    if ID < id.len() {
-        return true;
-    }
-    if given_over(name, names, ID) {
-        return true;
-    }
-    if given_over(password, passwords, PASSWORD) {
-        return true;
-    }
-    given_over(address, addresses, ADDRESS)
+    ID < client.id().len()
+        || given_over(client.name(), ID)
+        || given_over(client.password(), PASSWORD)
+        || given_over(client.address(), ADDRESS)
 }
 
 // The rule that decides on a store as laid out, whose shape this is.
@@ -74,18 +54,11 @@ fn deciding_on(
     store: &[u8],
     shape: Shape,
     asked: Asked,
-    id: &[u8],
-    name: Given,
-    names: &[u8],
-    password: Given,
-    passwords: &[u8],
-    address: Given,
-    addresses: &[u8],
-    protocol: Protocol,
+    client: &Client,
     topic: &[u8],
-) -> Deciding
-    requires { shape_of (view store.now) ≡ LaidOut shape }
-    ensures { (v : View) → view store.now ≡ some v → result ≡ spec.deciding_on (record { id = id.now; name = given name names.now; password = given password passwords.now; address = given address addresses.now; protocol = spec.protocol_of protocol }) (spec.wish_of asked topic.now) v }
+) -> Option<Deciding>
+    requires { shape_of (view store.now) ≡ Some shape }
+    ensures { (v : View) → view store.now ≡ Some v → result ≡ spec.deciding_on client.now (spec.wish_of asked topic.now) v }
 {
     let counts = shape.counts;
     let text_end = Counts::HEADER + shape.text;
@@ -99,66 +72,29 @@ fn deciding_on(
         &store[filters_at..filters_end],
         &store[eqs_at..eqs_end],
         asked,
-        id,
-        name,
-        names,
-        password,
-        passwords,
-        address,
-        addresses,
-        protocol,
+        client,
         topic,
     )
 }
 
 // May the client connect? The store is read only.
-pub fn connect(
-    store: &[u8],
-    earlier: u64,
-    id: &[u8],
-    name: Given,
-    names: &[u8],
-    password: Given,
-    passwords: &[u8],
-    address: Given,
-    addresses: &[u8],
-    protocol: u8,
-) -> ConnectAnswer
-    ensures { answers.connect_says result ≡ decision.ask (question.connect earlier (record { id = id.now; name = given name names.now; password = given password passwords.now; address = given address addresses.now; protocol = some protocol })) store.now }
+pub fn connect(store: &[u8], earlier: u64, client: &Client) -> Result<ConnectAnswer, Refusal>
+    ensures { answers.connect_says result ≡ decision.ask (question.connect earlier client.now) store.now }
 {
-    if client_over(id, name, names, password, passwords, address, addresses) {
-        return ConnectAnswer::Refused(Refusal::TooLong);
+    if client_over(client) {
+        return Err(Refusal::TooLong);
     }
     if CONNECT_CODE < earlier {
-        return ConnectAnswer::Refused(Refusal::OutOfRange);
+        return Err(Refusal::OutOfRange);
     }
-    let ShapeRead::LaidOut(shape) = check::shape(store) else {
-        return ConnectAnswer::Refused(Refusal::Malformed);
-    };
+    let shape = check::shape(store).ok_or(Refusal::Malformed)?;
     if CONNECT_KEPT <= earlier {
-        return ConnectAnswer::Kept(earlier);
+        return Ok(ConnectAnswer::Kept(earlier));
     }
-    match deciding_on(
-        store,
-        shape,
-        Asked::Connect,
-        id,
-        name,
-        names,
-        password,
-        passwords,
-        address,
-        addresses,
-        Protocol::Is(protocol),
-        &id[..0],
-    ) {
-        Deciding::NoRule => ConnectAnswer::Refuse(0),
-        Deciding::Rule(rule, allow, superuser) => {
-            if allow {
-                return ConnectAnswer::Allow(rule, superuser);
-            }
-            ConnectAnswer::Refuse(rule)
-        }
+    match deciding_on(store, shape, Asked::Connect, client, b"") {
+        Some(by) if by.allow => Ok(ConnectAnswer::Allow(by.rule, by.superuser)),
+        Some(by) => Ok(ConnectAnswer::Refuse(by.rule)),
+        None => Ok(ConnectAnswer::Refuse(0)),
     }
 }
 
@@ -166,58 +102,26 @@ pub fn connect(
 pub fn subscribe(
     store: &[u8],
     earlier: u64,
-    id: &[u8],
-    name: Given,
-    names: &[u8],
-    password: Given,
-    passwords: &[u8],
-    address: Given,
-    addresses: &[u8],
-    protocol: Protocol,
+    client: &Client,
     topic: &[u8],
     qos: u64,
-) -> SubscribeAnswer
-    ensures { answers.subscribe_says result ≡ decision.ask (question.subscribe earlier (record { id = id.now; name = given name names.now; password = given password passwords.now; address = given address addresses.now; protocol = spec.protocol_of protocol }) topic.now qos) store.now }
+) -> Result<SubscribeAnswer, Refusal>
+    ensures { answers.subscribe_says result ≡ decision.ask (question.subscribe earlier client.now topic.now qos) store.now }
 {
-    if client_over(id, name, names, password, passwords, address, addresses) {
-        return SubscribeAnswer::Refused(Refusal::TooLong);
+    if client_over(client) || TEXT < topic.len() {
+        return Err(Refusal::TooLong);
     }
-    if TEXT < topic.len() {
-        return SubscribeAnswer::Refused(Refusal::TooLong);
+    if CODE < earlier || QOS < qos {
+        return Err(Refusal::OutOfRange);
     }
-    if CODE < earlier {
-        return SubscribeAnswer::Refused(Refusal::OutOfRange);
-    }
-    if QOS < qos {
-        return SubscribeAnswer::Refused(Refusal::OutOfRange);
-    }
-    let ShapeRead::LaidOut(shape) = check::shape(store) else {
-        return SubscribeAnswer::Refused(Refusal::Malformed);
-    };
+    let shape = check::shape(store).ok_or(Refusal::Malformed)?;
     if earlier == CODE {
-        return SubscribeAnswer::Kept(earlier);
+        return Ok(SubscribeAnswer::Kept(earlier));
     }
-    match deciding_on(
-        store,
-        shape,
-        Asked::Subscribe,
-        id,
-        name,
-        names,
-        password,
-        passwords,
-        address,
-        addresses,
-        protocol,
-        topic,
-    ) {
-        Deciding::NoRule => SubscribeAnswer::Refuse(0),
-        Deciding::Rule(rule, allow, _) => {
-            if allow {
-                return SubscribeAnswer::Allow(rule, qos);
-            }
-            SubscribeAnswer::Refuse(rule)
-        }
+    match deciding_on(store, shape, Asked::Subscribe, client, topic) {
+        Some(by) if by.allow => Ok(SubscribeAnswer::Allow(by.rule, qos)),
+        Some(by) => Ok(SubscribeAnswer::Refuse(by.rule)),
+        None => Ok(SubscribeAnswer::Refuse(0)),
     }
 }
 
@@ -225,54 +129,25 @@ pub fn subscribe(
 pub fn publish(
     store: &[u8],
     earlier: u64,
-    id: &[u8],
-    name: Given,
-    names: &[u8],
-    password: Given,
-    passwords: &[u8],
-    address: Given,
-    addresses: &[u8],
-    protocol: Protocol,
+    client: &Client,
     topic: &[u8],
     disconnect: bool,
-) -> PublishAnswer
-    ensures { answers.publish_says result ≡ decision.ask (question.publish earlier (record { id = id.now; name = given name names.now; password = given password passwords.now; address = given address addresses.now; protocol = spec.protocol_of protocol }) topic.now disconnect) store.now }
+) -> Result<PublishAnswer, Refusal>
+    ensures { answers.publish_says result ≡ decision.ask (question.publish earlier client.now topic.now disconnect) store.now }
 {
-    if client_over(id, name, names, password, passwords, address, addresses) {
-        return PublishAnswer::Refused(Refusal::TooLong);
-    }
-    if TEXT < topic.len() {
-        return PublishAnswer::Refused(Refusal::TooLong);
+    if client_over(client) || TEXT < topic.len() {
+        return Err(Refusal::TooLong);
     }
     if CODE < earlier {
-        return PublishAnswer::Refused(Refusal::OutOfRange);
+        return Err(Refusal::OutOfRange);
     }
-    let ShapeRead::LaidOut(shape) = check::shape(store) else {
-        return PublishAnswer::Refused(Refusal::Malformed);
-    };
+    let shape = check::shape(store).ok_or(Refusal::Malformed)?;
     if earlier == CODE {
-        return PublishAnswer::Kept(earlier);
+        return Ok(PublishAnswer::Kept(earlier));
     }
-    match deciding_on(
-        store,
-        shape,
-        Asked::Publish,
-        id,
-        name,
-        names,
-        password,
-        passwords,
-        address,
-        addresses,
-        protocol,
-        topic,
-    ) {
-        Deciding::NoRule => PublishAnswer::Refuse(0, disconnect),
-        Deciding::Rule(rule, allow, _) => {
-            if allow {
-                return PublishAnswer::Allow(rule);
-            }
-            PublishAnswer::Refuse(rule, disconnect)
-        }
+    match deciding_on(store, shape, Asked::Publish, client, topic) {
+        Some(by) if by.allow => Ok(PublishAnswer::Allow(by.rule)),
+        Some(by) => Ok(PublishAnswer::Refuse(by.rule, disconnect)),
+        None => Ok(PublishAnswer::Refuse(0, disconnect)),
     }
 }

@@ -1,172 +1,102 @@
 // The decision on a rule text and used rows (document 01, Plugin decisions). Total: a line that is no rule agrees with nothing, and rows are
 // the whole rows of their part.
-ghost use Rattle.std.specs.Prelude.{◌≡◌, true, length};
+ghost use Rattle.std.specs.Prelude.{◌≡◌, true, length, IfSome};
 ghost use Rattle.topic.specs.Topic.{valid_filter};
 ghost use Rattle.json_text.specs.Lines.{lines};
 ghost use Rattle.rule.specs.RuleText.{read_rule};
 ghost use Rattle.rule.specs.Front.{item_behind};
-ghost use Rattle.rule.specs.Places.{given};
 ghost use Rattle.table.specs.Table.{some_row};
 ghost use Rattle.questions.specs.Decision as decision;
 ghost use Rattle.questions.specs.Parts as spec;
 
-use crate::{Asked, Deciding, Head, HeadRead, TopicPassed};
+use crate::{Asked, Deciding, Head, TopicPassed};
 use json_text::access::{first_element, kind_at, next_item, plain_text};
 use json_text::splitting::{line_at, line_behind};
 use json_text::strings::{decode, string_is};
 use json_text::values::separator;
-use json_text::{Copied, Kind, Place, Separator};
-use rule::agreement::identity;
+use json_text::{Kind, Separator};
+use rule::agreement::{Client, identity};
 use rule::ahead::{eq_text, rest};
 use rule::one_pass::{access_end, users_end};
 use rule::read::read_rule;
 use rule::topic_list::{is_template, topic_at};
-use rule::{
-    AccessPassed, Control, EqPassed, Given, Identity, Protocol, Rest, Rule, RuleRead, TEXT, Topic,
-    Topics, UsersPassed,
-};
+use rule::{Control, TEXT, Topic};
 use store::Counts;
 use store::rows::{filter_owner, filter_text, numbered_text};
 use table::number_at;
 use topic::{begins_apart, tree_match, tree_match_known, valid_filter};
 
 // Does a rule's control cover what is asked?
+#[tactic(auto, unfolding(crate::specs::Parts::covers_asked, crate::specs::Parts::wish_of, crate::specs::Decision::covers))]
 fn covers(control: Control, asked: Asked) -> bool
     ensures { result ≡ spec.covers_asked control asked }
 {
     match control {
         Control::All => true,
-        Control::Connect => match asked {
-            Asked::Connect => true,
-            Asked::Subscribe => false,
-            Asked::Publish => false,
-        },
-        Control::Publish => match asked {
-            Asked::Connect => false,
-            Asked::Subscribe => false,
-            Asked::Publish => true,
-        },
-        Control::Subscribe => match asked {
-            Asked::Connect => false,
-            Asked::Subscribe => true,
-            Asked::Publish => false,
-        },
-        Control::Pubsub => match asked {
-            Asked::Connect => false,
-            Asked::Subscribe => true,
-            Asked::Publish => true,
-        },
+        Control::Connect => asked == Asked::Connect,
+        Control::Publish => asked == Asked::Publish,
+        Control::Subscribe => asked == Asked::Subscribe,
+        Control::Pubsub => asked != Asked::Connect,
     }
 }
 
 // "Connect skips topics."
-fn asked_topics(asked: Asked, topics: Topics) -> Topics
+#[tactic(auto, unfolding(crate::specs::Parts::topics_for))]
+fn asked_topics(asked: Asked, topics: Option<usize>) -> Option<usize>
     ensures { result ≡ spec.topics_for asked topics }
 {
     match asked {
-        Asked::Connect => Topics::All,
-        Asked::Subscribe => topics,
-        Asked::Publish => topics,
+        Asked::Connect => None,
+        Asked::Subscribe | Asked::Publish => topics,
     }
 }
 
 // A rule's line before its topics.
-fn head(
-    line: &[u8],
-    asked: Asked,
-    id: &[u8],
-    name: Given,
-    names: &[u8],
-    password: Given,
-    passwords: &[u8],
-    address: Given,
-    addresses: &[u8],
-    protocol: Protocol,
-) -> Head
-    ensures { result ≡ spec.head_at (record { id = id.now; name = given name names.now; password = given password passwords.now; address = given address addresses.now; protocol = spec.protocol_of protocol }) asked line.now }
+fn head(line: &[u8], asked: Asked, client: &Client) -> Option<Head>
+    ensures { result ≡ spec.head_at client.now asked line.now }
 {
-    let RuleRead::Rule(rule) = read_rule(line) else {
-        return Head::Differs;
-    };
-    let control = rule.control;
-    if !covers(control, asked) {
-        return Head::Differs;
+    let rule = read_rule(line).ok()?;
+    if !covers(rule.control, asked) {
+        return None;
     }
-    let users = rule.users;
-    match identity(
-        line, users, id, name, names, password, passwords, address, addresses, protocol,
-    ) {
-        Identity::Differs => Head::Differs,
-        Identity::Agrees(superuser) => {
-            let topics = rule.topics;
-            Head::Agrees(rule.allow, superuser, asked_topics(asked, topics))
-        }
-    }
+    let superuser = identity(line, rule.users, client)?;
+    Some(Head {
+        allow: rule.allow,
+        superuser,
+        topics: asked_topics(asked, rule.topics),
+    })
 }
 
 // The head of a line that is a rule. Where the users differ, nothing behind them is read.
-fn front_head(
-    line: &[u8],
-    asked: Asked,
-    id: &[u8],
-    name: Given,
-    names: &[u8],
-    password: Given,
-    passwords: &[u8],
-    address: Given,
-    addresses: &[u8],
-    protocol: Protocol,
-) -> HeadRead
+fn front_head(line: &[u8], asked: Asked, client: &Client) -> Option<Option<Head>>
     requires { spec.is_rule (read_rule line.now) ≡ true }
-    ensures { spec.WhereHead result (spec.head_at (record { id = id.now; name = given name names.now; password = given password passwords.now; address = given address addresses.now; protocol = spec.protocol_of protocol }) asked line.now) }
+    ensures { IfSome result (λ head. head ≡ spec.head_at client.now asked line.now) }
 {
-    let AccessPassed::Access(allow, at) = access_end(line) else {
-        return HeadRead::Unread;
+    let access = access_end(line)?;
+    let users = users_end(line, access.value, access.next)?;
+    let Some(superuser) = identity(line, users.value, client) else {
+        return Some(None);
     };
-    let UsersPassed::Users(users, end) = users_end(line, allow, at) else {
-        return HeadRead::Unread;
-    };
-    let Identity::Agrees(superuser) = identity(
-        line, users, id, name, names, password, passwords, address, addresses, protocol,
-    ) else {
-        return HeadRead::Is(Head::Differs);
-    };
-    let Rest::Rest(control, topics) = rest(line, end) else {
-        return HeadRead::Unread;
-    };
-    if !covers(control, asked) {
-        return HeadRead::Is(Head::Differs);
+    let rest = rest(line, users.next)?;
+    if !covers(rest.control, asked) {
+        return Some(None);
     }
-    HeadRead::Is(Head::Agrees(allow, superuser, asked_topics(asked, topics)))
+    Some(Some(Head {
+        allow: access.value,
+        superuser,
+        topics: asked_topics(asked, rest.topics),
+    }))
 }
 
 // A line before its topics; with `checked`, the line is known to be a rule.
-fn head_of(
-    line: &[u8],
-    checked: bool,
-    asked: Asked,
-    id: &[u8],
-    name: Given,
-    names: &[u8],
-    password: Given,
-    passwords: &[u8],
-    address: Given,
-    addresses: &[u8],
-    protocol: Protocol,
-) -> Head
+fn head_of(line: &[u8], checked: bool, asked: Asked, client: &Client) -> Option<Head>
     requires { checked ≡ true → spec.is_rule (read_rule line.now) ≡ true }
-    ensures { result ≡ spec.head_at (record { id = id.now; name = given name names.now; password = given password passwords.now; address = given address addresses.now; protocol = spec.protocol_of protocol }) asked line.now }
+    ensures { result ≡ spec.head_at client.now asked line.now }
 {
-    if checked {
-        if let HeadRead::Is(known) = front_head(
-            line, asked, id, name, names, password, passwords, address, addresses, protocol,
-        ) {
-            return known;
-        }
+    if checked && let Some(known) = front_head(line, asked, client) {
+        return known;
     }
-    head(
-        line, asked, id, name, names, password, passwords, address, addresses, protocol,
-    )
+    head(line, asked, client)
 }
 
 // Does the filter at this place of the line T-match the topic?
@@ -175,9 +105,8 @@ fn filter_matches(line: &[u8], at: usize, topic: &[u8]) -> bool
 {
     let mut filter = [0u8; TEXT];
     match decode(line, at, &mut filter) {
-        Copied::Length(n) => tree_match(&filter[..n], topic),
-        Copied::TooLong => false,
-        Copied::NoText => false,
+        Ok(n) => tree_match(&filter[..n], topic),
+        Err(_) => false,
     }
 }
 
@@ -185,58 +114,50 @@ fn filter_matches(line: &[u8], at: usize, topic: &[u8]) -> bool
 fn topic_agrees(line: &[u8], at: usize, topic: &[u8]) -> bool
     ensures { result ≡ spec.topic_agrees_at topic.now line.now at }
 {
-    match topic_at(line, at) {
+    let Some(found) = topic_at(line, at) else {
+        return false;
+    };
+    match found {
         Topic::Filter(p) => filter_matches(line, p, topic),
         Topic::Eq(p) => string_is(line, p, topic),
-        _ => false,
+        Topic::Template(_) => false,
+        Topic::EqTemplate(_) => false,
     }
 }
 
 // Does the text, a filter as it stands in the line, agree by itself? Most begin apart; what matches must be a rule's filter and no template.
+#[tactic(auto, using(crate::proofs::PassLaws::known_match, topic::proofs::Apart::apart_no_match), unfolding(crate::specs::Parts::text_agrees, store::specs::Store::over))]
 fn text_agrees(text: &[u8], topic: &[u8], valid: bool) -> bool
     requires { valid ≡ valid_filter topic.now }
     ensures { result ≡ spec.text_agrees topic.now text.now }
 {
-    if begins_apart(text, topic) {
-        return false;
-    }
-    if !tree_match_known(text, topic, valid) {
-        return false;
-    }
-    if TEXT < text.len() {
-        return false;
-    }
-    if is_template(text) {
-        return false;
-    }
-    valid_filter(text)
+    !begins_apart(text, topic)
+        && tree_match_known(text, topic, valid)
+        && text.len() <= TEXT
+        && !is_template(text)
+        && valid_filter(text)
 }
 
 // The element behind one that ends before this place.
-fn element_behind(line: &[u8], at: usize) -> Place
+fn element_behind(line: &[u8], at: usize) -> Option<usize>
     ensures { result ≡ item_behind line.now at }
 {
-    match separator(line, at, b']') {
-        Separator::Comma(next) => Place::At(next),
-        Separator::Close(_) => Place::Nowhere,
-        Separator::Neither => Place::Nowhere,
+    match separator(line, at, b']')? {
+        Separator::Comma(next) => Some(next),
+        Separator::Close(_) => None,
     }
 }
 
 // The same of a text under `eq`.
+#[tactic(auto, unfolding(crate::specs::Parts::eq_text_agrees, store::specs::Store::over))]
 fn eq_agrees(text: &[u8], topic: &[u8]) -> bool
     ensures { result ≡ spec.eq_text_agrees topic.now text.now }
 {
-    if !text::same(text, topic) {
-        return false;
-    }
-    if TEXT < text.len() {
-        return false;
-    }
-    !is_template(text)
+    text::same(text, topic) && text.len() <= TEXT && !is_template(text)
 }
 
 // A topic that is read through its value: it agrees by itself, or this is the next one.
+#[tactic(auto, unfolding(crate::specs::Parts::passed_topic))]
 fn pass_value(line: &[u8], at: usize, topic: &[u8]) -> TopicPassed
     ensures { result ≡ spec.passed_topic topic.now line.now at }
 {
@@ -254,7 +175,7 @@ fn pass_topic(line: &[u8], at: usize, topic: &[u8], valid: bool) -> TopicPassed
 {
     match kind_at(line, at) {
         Kind::Text => {
-            if let Place::At(end) = plain_text(line, at) {
+            if let Some(end) = plain_text(line, at) {
                 if text_agrees(&line[at + 1..end], topic, valid) {
                     return TopicPassed::Agrees;
                 }
@@ -262,11 +183,11 @@ fn pass_topic(line: &[u8], at: usize, topic: &[u8], valid: bool) -> TopicPassed
             }
         }
         Kind::Object => {
-            if let EqPassed::Text(opens, closes, behind) = eq_text(line, at) {
-                if eq_agrees(&line[opens + 1..closes], topic) {
+            if let Some(eq) = eq_text(line, at) {
+                if eq_agrees(&line[eq.opens + 1..eq.closes], topic) {
                     return TopicPassed::Agrees;
                 }
-                return TopicPassed::Onward(element_behind(line, behind));
+                return TopicPassed::Onward(element_behind(line, eq.next));
             }
         }
         _ => {}
@@ -278,18 +199,9 @@ fn pass_topic(line: &[u8], at: usize, topic: &[u8], valid: bool) -> TopicPassed
 fn eq_row_agrees(eqs: &[u8], rule: usize, topic: &[u8]) -> bool
     ensures { result ≡ some_row (decision.eq_agrees rule topic.now) (spec.eq_rows eqs.now) }
 {
-    let mut at = 0;
-    while Counts::EQ <= eqs.len() - at {
-        let next = at + Counts::EQ;
-        let row = &eqs[at..next];
-        if number_at(row, 0) == rule {
-            if text::same(numbered_text(row), topic) {
-                return true;
-            }
-        }
-        at = next;
-    }
-    false
+    eqs.chunks_exact(Counts::EQ).any(|row| {
+        number_at(row, 0) == rule && text::same(numbered_text(row), topic)
+    })
 }
 
 // Is there a filter row of the rule and the client that T-matches the topic?
@@ -297,42 +209,27 @@ fn filter_row_agrees(filters: &[u8], rule: usize, id: &[u8], topic: &[u8], valid
     requires { valid ≡ valid_filter topic.now }
     ensures { result ≡ some_row (decision.filter_agrees rule id.now topic.now) (spec.filter_rows filters.now) }
 {
-    let mut at = 0;
-    while Counts::FILTER <= filters.len() - at {
-        let next = at + Counts::FILTER;
-        let row = &filters[at..next];
-        if number_at(row, 0) == rule {
-            if text::same(filter_owner(row), id) {
-                if tree_match_known(filter_text(row), topic, valid) {
-                    return true;
-                }
-            }
-        }
-        at = next;
-    }
-    false
+    filters.chunks_exact(Counts::FILTER).any(|row| {
+        number_at(row, 0) == rule
+            && text::same(filter_owner(row), id)
+            && tree_match_known(filter_text(row), topic, valid)
+    })
 }
 
 // Does one of the topics from this place on agree by itself?
-fn some_topic_agrees(line: &[u8], first: Place, topic: &[u8]) -> bool
+fn some_topic_agrees(line: &[u8], first: Option<usize>, topic: &[u8]) -> bool
     ensures { result ≡ spec.some_topic_from topic.now (length line.now) line.now first }
 {
     let mut next = first;
-    // How many topics may still come: each takes a byte of the line at least, so none is lost when this runs out.
-    let mut turns = line.len();
-    while turns > 0 {
-        match next {
-            Place::Nowhere => {
-                return false;
-            }
-            Place::At(p) => {
-                if topic_agrees(line, p, topic) {
-                    return true;
-                }
-                next = next_item(line, p);
-                turns -= 1;
-            }
+    // Each topic takes a byte of the line at least, so there are never more topics than bytes, and none is lost.
+    for _ in 0..line.len() {
+        let Some(p) = next else {
+            return false;
+        };
+        if topic_agrees(line, p, topic) {
+            return true;
         }
+        next = next_item(line, p);
     }
     false
 }
@@ -344,115 +241,78 @@ pub fn rule_agrees(
     filters: &[u8],
     eqs: &[u8],
     asked: Asked,
-    id: &[u8],
-    name: Given,
-    names: &[u8],
-    password: Given,
-    passwords: &[u8],
-    address: Given,
-    addresses: &[u8],
-    protocol: Protocol,
+    client: &Client,
     topic: &[u8],
 ) -> bool
-    ensures { result ≡ spec.line_agrees (record { id = id.now; name = given name names.now; password = given password passwords.now; address = given address addresses.now; protocol = spec.protocol_of protocol }) (spec.wish_of asked topic.now) rule line.now filters.now eqs.now }
+    ensures { result ≡ spec.line_agrees client.now (spec.wish_of asked topic.now) rule line.now filters.now eqs.now }
 {
-    let Head::Agrees(_, _, topics) = head(
-        line, asked, id, name, names, password, passwords, address, addresses, protocol,
-    ) else {
+    let Some(head) = head(line, asked, client) else {
         return false;
     };
-    let Topics::Listed(array) = topics else {
+    let Some(array) = head.topics else {
         return true;
     };
-    if some_topic_agrees(line, first_element(line, array), topic) {
-        return true;
-    }
-    if eq_row_agrees(eqs, rule, topic) {
-        return true;
-    }
-    filter_row_agrees(filters, rule, id, topic, valid_filter(topic))
+    some_topic_agrees(line, first_element(line, array), topic)
+        || eq_row_agrees(eqs, rule, topic)
+        || filter_row_agrees(filters, rule, client.id(), topic, valid_filter(topic))
 }
 
-// "The first rule whose control, users and topics all agree decides." With `checked`, each line is known to be a rule.
+// "The first rule whose control, users and topics all agree decides." With `checked`, each line is known to be a rule. Document 01 gives the
+// form: a labelled loop over rules and, inside, topics, left by `break` with the deciding rule's number. So it is no chain of iterators.
 pub(crate) fn deciding_in(
     rules: &[u8],
     checked: bool,
     filters: &[u8],
     eqs: &[u8],
     asked: Asked,
-    id: &[u8],
-    name: Given,
-    names: &[u8],
-    password: Given,
-    passwords: &[u8],
-    address: Given,
-    addresses: &[u8],
-    protocol: Protocol,
+    client: &Client,
     topic: &[u8],
-) -> Deciding
+) -> Option<Deciding>
     requires { checked ≡ true → spec.every_rule (lines rules.now) ≡ true }
-    ensures { result ≡ spec.deciding (record { id = id.now; name = given name names.now; password = given password passwords.now; address = given address addresses.now; protocol = spec.protocol_of protocol }) (spec.wish_of asked topic.now) rules.now filters.now eqs.now }
+    ensures { result ≡ spec.deciding client.now (spec.wish_of asked topic.now) rules.now filters.now eqs.now }
 {
     let valid = valid_filter(topic);
     let mut allow = false;
     let mut superuser = false;
     let mut n = 0;
     let mut at = 0;
-    let decided = 'rules: loop {
+    let rule = 'rules: loop {
         if rules.len() <= at {
-            break 'rules 0;
+            return None;
         }
         let line = line_at(rules, at);
         at = line_behind(rules, at + line.len());
         n += 1;
-        match head_of(
-            line, checked, asked, id, name, names, password, passwords, address, addresses,
-            protocol,
-        ) {
-            Head::Differs => {}
-            Head::Agrees(access, flag, topics) => {
-                allow = access;
-                superuser = flag;
-                match topics {
-                    Topics::All => {
-                        break 'rules n;
-                    }
-                    Topics::Listed(array) => {
-                        let mut next = first_element(line, array);
-                        // How many topics may still come. Each takes a byte of the line at least, so there are never more topics
-                        // than bytes, and none is lost when this runs out.
-                        let mut turns = line.len();
-                        'topics: while turns > 0 {
-                            match next {
-                                Place::Nowhere => {
-                                    break 'topics;
-                                }
-                                Place::At(p) => match pass_topic(line, p, topic, valid) {
-                                    TopicPassed::Agrees => {
-                                        break 'rules n;
-                                    }
-                                    TopicPassed::Onward(place) => {
-                                        next = place;
-                                        turns -= 1;
-                                    }
-                                },
-                            }
-                        }
-                        if eq_row_agrees(eqs, n - 1, topic) {
-                            break 'rules n;
-                        }
-                        if filter_row_agrees(filters, n - 1, id, topic, valid) {
-                            break 'rules n;
-                        }
-                    }
-                }
+        let Some(head) = head_of(line, checked, asked, client) else {
+            continue 'rules;
+        };
+        allow = head.allow;
+        superuser = head.superuser;
+        let Some(array) = head.topics else {
+            break 'rules n;
+        };
+        let mut next = first_element(line, array);
+        // Each topic takes a byte of the line at least, so there are never more topics than bytes, and none is lost.
+        'topics: for _ in 0..line.len() {
+            let Some(p) = next else {
+                break 'topics;
+            };
+            match pass_topic(line, p, topic, valid) {
+                TopicPassed::Agrees => break 'rules n,
+                TopicPassed::Onward(place) => next = place,
             }
         }
+        if eq_row_agrees(eqs, n - 1, topic)
+            || filter_row_agrees(filters, n - 1, client.id(), topic, valid)
+        {
+            break 'rules n;
+        }
     };
-    if decided == 0 {
-        return Deciding::NoRule;
-    }
-    Deciding::Rule(decided, allow, superuser)
+    Some(Deciding {
+        rule,
+        allow,
+        superuser,
+    })
 }
 
 // The rule that decides, of a text of any lines.
@@ -461,20 +321,10 @@ pub fn deciding_rule(
     filters: &[u8],
     eqs: &[u8],
     asked: Asked,
-    id: &[u8],
-    name: Given,
-    names: &[u8],
-    password: Given,
-    passwords: &[u8],
-    address: Given,
-    addresses: &[u8],
-    protocol: Protocol,
+    client: &Client,
     topic: &[u8],
-) -> Deciding
-    ensures { result ≡ spec.deciding (record { id = id.now; name = given name names.now; password = given password passwords.now; address = given address addresses.now; protocol = spec.protocol_of protocol }) (spec.wish_of asked topic.now) rules.now filters.now eqs.now }
+) -> Option<Deciding>
+    ensures { result ≡ spec.deciding client.now (spec.wish_of asked topic.now) rules.now filters.now eqs.now }
 {
-    deciding_in(
-        rules, false, filters, eqs, asked, id, name, names, password, passwords, address,
-        addresses, protocol, topic,
-    )
+    deciding_in(rules, false, filters, eqs, asked, client, topic)
 }

@@ -5,68 +5,58 @@
 pub mod ask;
 pub mod decision;
 
-use json_text::Place;
-use rule::{Refusal, Topics};
-
 // What is asked.
-#[derive(Clone, Copy)]
+#[derive(Clone, Copy, Debug, PartialEq, Eq)]
 pub enum Asked {
     Connect,
     Subscribe,
     Publish,
 }
 
-// A rule's line before its topics: it agrees, with its access, the superuser flag and the topics that are left to agree, or it differs.
-#[derive(Clone, Copy)]
-pub enum Head {
-    Agrees(bool, bool, Topics),
-    Differs,
-}
-
-// The head of a line that is known to be a rule, read no further than it agrees; or that its words aren't plain.
-#[derive(Clone, Copy)]
-pub enum HeadRead {
-    Is(Head),
-    Unread,
-}
-
-// A topic that is passed: it agrees by itself, or this is the next one.
-#[derive(Clone, Copy)]
+// A topic that is passed: it agrees by itself, or this is the next one. The variants' names say more here than `ControlFlow`'s, and no `?` passes
+// one on.
+#[derive(Clone, Copy, Debug, PartialEq, Eq)]
 pub enum TopicPassed {
     Agrees,
-    Onward(Place),
+    Onward(Option<usize>),
 }
 
-// The first rule that agrees: its number from 1, its access and the superuser flag.
-#[derive(Clone, Copy)]
-pub enum Deciding {
-    Rule(usize, bool, bool),
-    NoRule,
-}
-
-// The earlier answer is kept; allowed by a rule, with the superuser flag; refused by a rule (0 none); refused by number.
-#[derive(Clone, Copy)]
+// The earlier answer is kept; allowed by a rule, with the superuser flag; refused by a rule (0 none).
+#[derive(Clone, Copy, Debug, PartialEq, Eq)]
 pub enum ConnectAnswer {
     Kept(u64),
     Allow(usize, bool),
     Refuse(usize),
-    Refused(Refusal),
 }
 
 // Allowed with the asked QoS.
-#[derive(Clone, Copy)]
+#[derive(Clone, Copy, Debug, PartialEq, Eq)]
 pub enum SubscribeAnswer {
     Kept(u64),
     Allow(usize, u64),
     Refuse(usize),
-    Refused(Refusal),
 }
 
 // Refused with the caller's disconnect flag.
-#[derive(Clone, Copy)]
+#[derive(Clone, Copy, Debug, PartialEq, Eq)]
 pub enum PublishAnswer {
     Kept(u64),
     Allow(usize),
     Refuse(usize, bool),
-    Refused(Refusal),
+}
+
+// A rule's line before its topics, where it agrees: its access, the superuser flag, and the place of the topics that are left to agree.
+#[derive(Clone, Copy, Debug, PartialEq, Eq)]
+pub struct Head {
+    pub allow: bool,
+    pub superuser: bool,
+    pub topics: Option<usize>,
+}
+
+// The first rule that agrees: its number from 1, its access and the superuser flag.
+#[derive(Clone, Copy, Debug, PartialEq, Eq)]
+pub struct Deciding {
+    pub rule: usize,
+    pub allow: bool,
+    pub superuser: bool,
 }

@@ -4,7 +4,7 @@ use Prim.Native.Nat.{ℕ}
 use mathlib.Core.Path.{◌≡◌, refl}
 use mathlib.Core.Bool.{Bool, true, false, ◌&&◌, not, cond}
 use mathlib.Core.List.{List, [], ◌∷◌, ◌++◌, map}
-use mathlib.Core.Option.{Option, none, some}
+use Rattle.std.specs.Prelude.{Option, None, Some}
 use lib.Dec.{eqb}
 use Rattle.text.proofs.Laws.{and_split}
 use Rattle.rule.specs.Refusals.{first}
@@ -35,18 +35,18 @@ first-told (c ∷ causes) h =
         (b : Bool) →
         told c.1 ≡ true →
         told (recorded (first causes)) ≡ given (first causes) →
-        told (recorded (cond b (some c.1) (first causes))) ≡ given (cond b (some c.1) (first causes))
+        told (recorded (cond b (Some c.1) (first causes))) ≡ given (cond b (Some c.1) (first causes))
     at true one rest = one
     at false one rest = rest
 
 cause_told : (e : Event) (o : Option View) → told (recorded (cause e o)) ≡ given (cause e o)
 unfolding cause argument_causes store_causes
-cause_told (connected n id name) none = first-told (argument_causes (connected n id name) ++ ((true, 3) ∷ [])) refl
-cause_told (disconnected n id) none = first-told (argument_causes (disconnected n id) ++ ((true, 3) ∷ [])) refl
-cause_told (ended n) none = first-told (argument_causes (ended n) ++ ((true, 3) ∷ [])) refl
-cause_told (connected n id name) (some v) = first-told (argument_causes (connected n id name) ++ store_causes (connected n id name) v) refl
-cause_told (disconnected n id) (some v) = first-told (argument_causes (disconnected n id) ++ store_causes (disconnected n id) v) refl
-cause_told (ended n) (some v) = first-told (argument_causes (ended n) ++ store_causes (ended n) v) refl
+cause_told (connected n id name) None = first-told (argument_causes (connected n id name) ++ ((true, 3) ∷ [])) refl
+cause_told (disconnected n id) None = first-told (argument_causes (disconnected n id) ++ ((true, 3) ∷ [])) refl
+cause_told (ended n) None = first-told (argument_causes (ended n) ++ ((true, 3) ∷ [])) refl
+cause_told (connected n id name) (Some v) = first-told (argument_causes (connected n id name) ++ store_causes (connected n id name) v) refl
+cause_told (disconnected n id) (Some v) = first-told (argument_causes (disconnected n id) ++ store_causes (disconnected n id) v) refl
+cause_told (ended n) (Some v) = first-told (argument_causes (ended n) ++ store_causes (ended n) v) refl
 
 pub records_outcomes : (es : List Event) (s : List ℕ) → map (λ n. not (eqb n 0)) (records_of es s) ≡ map (λ (x : Outcome). x.1) (outcomes es s)
 unfolding records_of outcomes refused

@@ -1,6 +1,5 @@
 -- The events of the list, with the session and the client of each.
-use Rattle.std.specs.Prelude.{ℕ, cond, List, [], ◌∷◌, eqb, replicate}
-use Rattle.std.proofs.Math.Option.{Option, none, some}
+use Rattle.std.specs.Prelude.{ℕ, cond, List, [], ◌∷◌, eqb, replicate, Option, None, Some}
 use Rattle.text.specs.Ascii.{ascii}
 use Rattle.events.specs.Event as happens
 use Rattle.reorder.specs.declared.listing.Event.{Event}
@@ -43,7 +42,7 @@ id_of c = cond (eqb c 0x78) (replicate 65 0x78) (0x67 ∷ c ∷ [])
 
 -- the user name of an initial
 unfoldable pub name_of : ℕ → Option (List ℕ)
-name_of n = cond (eqb n 0x61) (some (ascii "ann")) (cond (eqb n 0x62) (some (ascii "bo")) (cond (eqb n 0x63) (some (ascii "cy")) none))
+name_of n = cond (eqb n 0x61) (Some (ascii "ann")) (cond (eqb n 0x62) (Some (ascii "bo")) (cond (eqb n 0x63) (Some (ascii "cy")) None))
 
 -- the event of document 01 that is meant
 unfoldable pub meant : Event → happens.Event
@@ -53,5 +52,5 @@ meant (Ended s) = happens.ended s
 
 -- what is recorded of an event: 0 where it is done, else the number of its cause
 unfoldable pub recorded : Option ℕ → ℕ
-recorded none = 0
-recorded (some n) = n
+recorded None = 0
+recorded (Some n) = n

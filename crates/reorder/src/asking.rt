@@ -1,14 +1,15 @@
 // Asks both stores the same questions.
 use crate::LENGTH;
 use crate::saying::{say, say_number};
-use acl::{ConnectAnswer, Given, Protocol, PublishAnswer, SubscribeAnswer};
-use rule::refusal_number;
+use acl::{ConnectAnswer, PublishAnswer, SubscribeAnswer};
+use rule::agreement::Client;
+use rule::{Refusal, refusal_number};
 
 // An id that is a byte too long.
 const LONG: [u8; 65] = [b'x'; 65];
 
 // An answer: which case it is, by an initial, the rule or the number, and what else it carries.
-#[derive(Clone, Copy)]
+#[derive(Clone, Copy, Debug, PartialEq, Eq)]
 struct Answer {
     case: u8,
     number: u64,
@@ -48,20 +49,20 @@ fn allow(rule: usize, superuser: bool) -> Answer {
 }
 
 // The answer to a publish.
-fn of_publish(answer: PublishAnswer) -> Answer {
+fn of_publish(answer: Result<PublishAnswer, Refusal>) -> Answer {
     match answer {
-        PublishAnswer::Kept(code) => Answer {
+        Ok(PublishAnswer::Kept(code)) => Answer {
             case: b'k',
             number: code,
             more: 0,
         },
-        PublishAnswer::Allow(rule) => Answer {
+        Ok(PublishAnswer::Allow(rule)) => Answer {
             case: b'a',
             number: rule as u64,
             more: 0,
         },
-        PublishAnswer::Refuse(rule, flag) => refuse(rule, flag),
-        PublishAnswer::Refused(cause) => Answer {
+        Ok(PublishAnswer::Refuse(rule, flag)) => refuse(rule, flag),
+        Err(cause) => Answer {
             case: b'e',
             number: refusal_number(cause) as u64,
             more: 0,
@@ -70,24 +71,24 @@ fn of_publish(answer: PublishAnswer) -> Answer {
 }
 
 // The answer to a subscribe.
-fn of_subscribe(answer: SubscribeAnswer) -> Answer {
+fn of_subscribe(answer: Result<SubscribeAnswer, Refusal>) -> Answer {
     match answer {
-        SubscribeAnswer::Kept(code) => Answer {
+        Ok(SubscribeAnswer::Kept(code)) => Answer {
             case: b'k',
             number: code,
             more: 0,
         },
-        SubscribeAnswer::Allow(rule, qos) => Answer {
+        Ok(SubscribeAnswer::Allow(rule, qos)) => Answer {
             case: b'a',
             number: rule as u64,
             more: qos,
         },
-        SubscribeAnswer::Refuse(rule) => Answer {
+        Ok(SubscribeAnswer::Refuse(rule)) => Answer {
             case: b'r',
             number: rule as u64,
             more: 0,
         },
-        SubscribeAnswer::Refused(cause) => Answer {
+        Err(cause) => Answer {
             case: b'e',
             number: refusal_number(cause) as u64,
             more: 0,
@@ -96,20 +97,20 @@ fn of_subscribe(answer: SubscribeAnswer) -> Answer {
 }
 
 // The answer to a connect.
-fn of_connect(answer: ConnectAnswer) -> Answer {
+fn of_connect(answer: Result<ConnectAnswer, Refusal>) -> Answer {
     match answer {
-        ConnectAnswer::Kept(code) => Answer {
+        Ok(ConnectAnswer::Kept(code)) => Answer {
             case: b'k',
             number: code,
             more: 0,
         },
-        ConnectAnswer::Allow(rule, superuser) => allow(rule, superuser),
-        ConnectAnswer::Refuse(rule) => Answer {
+        Ok(ConnectAnswer::Allow(rule, superuser)) => allow(rule, superuser),
+        Ok(ConnectAnswer::Refuse(rule)) => Answer {
             case: b'r',
             number: rule as u64,
             more: 0,
         },
-        ConnectAnswer::Refused(cause) => Answer {
+        Err(cause) => Answer {
             case: b'e',
             number: refusal_number(cause) as u64,
             more: 0,
@@ -146,12 +147,10 @@ fn side_by_side(rt: &impl Print, one: Answer, other: Answer) -> bool {
     same
 }
 
-// An empty name stands for none.
-fn given(names: &[u8]) -> Given {
-    if names.len() == 0 {
-        return Given::Absent;
-    }
-    Given::Length(names.len())
+// The client with this id and name, of which an empty one stands for none, and this protocol.
+fn client<'a>(id: &'a [u8], name: &'a [u8], protocol: Option<u8>) -> Client<'a> {
+    let given = if name.len() == 0 { None } else { Some(name) };
+    Client::new(id, given, None, None, protocol)
 }
 
 // Writes a question.
@@ -167,62 +166,24 @@ fn question(rt: &impl Print, word: &[u8], id: &[u8], names: &[u8], topic: &[u8])
 }
 
 // A store's answer to a connect.
-fn connect(store: &[u8; LENGTH], id: &[u8], name: Given, names: &[u8]) -> Answer {
-    of_connect(acl::connect(
-        store,
-        0,
-        id,
-        name,
-        names,
-        Given::Absent,
-        b"",
-        Given::Absent,
-        b"",
-        4,
-    ))
+fn connect(store: &[u8; LENGTH], id: &[u8], name: &[u8]) -> Answer {
+    of_connect(acl::connect(store, 0, &client(id, name, Some(4))))
 }
 
 // A store's answer to a publish, with the disconnect flag.
-fn publish(store: &[u8; LENGTH], id: &[u8], name: Given, names: &[u8], topic: &[u8]) -> Answer {
-    of_publish(acl::publish(
-        store,
-        0,
-        id,
-        name,
-        names,
-        Given::Absent,
-        b"",
-        Given::Absent,
-        b"",
-        Protocol::Any,
-        topic,
-        true,
-    ))
+fn publish(store: &[u8; LENGTH], id: &[u8], name: &[u8], topic: &[u8]) -> Answer {
+    of_publish(acl::publish(store, 0, &client(id, name, None), topic, true))
 }
 
 // A store's answer to a subscribe with QoS 1.
-fn subscribe(store: &[u8; LENGTH], id: &[u8], name: Given, names: &[u8], topic: &[u8]) -> Answer {
-    of_subscribe(acl::subscribe(
-        store,
-        0,
-        id,
-        name,
-        names,
-        Given::Absent,
-        b"",
-        Given::Absent,
-        b"",
-        Protocol::Any,
-        topic,
-        1,
-    ))
+fn subscribe(store: &[u8; LENGTH], id: &[u8], name: &[u8], topic: &[u8]) -> Answer {
+    of_subscribe(acl::subscribe(store, 0, &client(id, name, None), topic, 1))
 }
 
 // May a client connect, by the one store and by the other?
 fn connects(rt: &impl Print, a: &[u8; LENGTH], b: &[u8; LENGTH], id: &[u8], names: &[u8]) -> bool {
-    let name = given(names);
     question(rt, b"connect ", id, b"", names);
-    side_by_side(rt, connect(a, id, name, names), connect(b, id, name, names))
+    side_by_side(rt, connect(a, id, names), connect(b, id, names))
 }
 
 // May a client publish to this topic, by the one store and by the other?
@@ -234,12 +195,11 @@ fn publishes(
     names: &[u8],
     topic: &[u8],
 ) -> bool {
-    let name = given(names);
     question(rt, b"publish ", id, names, topic);
     side_by_side(
         rt,
-        publish(a, id, name, names, topic),
-        publish(b, id, name, names, topic),
+        publish(a, id, names, topic),
+        publish(b, id, names, topic),
     )
 }
 
@@ -252,12 +212,11 @@ fn subscribes(
     names: &[u8],
     topic: &[u8],
 ) -> bool {
-    let name = given(names);
     question(rt, b"subscribe ", id, names, topic);
     side_by_side(
         rt,
-        subscribe(a, id, name, names, topic),
-        subscribe(b, id, name, names, topic),
+        subscribe(a, id, names, topic),
+        subscribe(b, id, names, topic),
     )
 }
 

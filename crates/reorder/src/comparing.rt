@@ -4,7 +4,7 @@ ghost use Rattle.text.specs.Text as bytes;
 
 use crate::LENGTH;
 use crate::saying::{part, say, say_number, whether};
-use store::{Counts, CountsRead};
+use store::Counts;
 use table::{number_at, present, row_at};
 
 // Each table has room for so many rows.
@@ -111,7 +111,7 @@ fn alike_by(rt: &impl Print, a: &[u8; LENGTH], b: &[u8; LENGTH], counts: Counts)
 
 // Compares two stores of R 256 and F, E, N 8.
 pub(crate) fn alike(rt: &impl Print, a: &[u8; LENGTH], b: &[u8; LENGTH]) -> bool {
-    let CountsRead::Counts(counts) = Counts::new(256, 8, 8, 8) else {
+    let Some(counts) = Counts::new(256, 8, 8, 8) else {
         say(rt, b"no such counts\n");
         return false;
     };

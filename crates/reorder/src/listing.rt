@@ -5,11 +5,10 @@ ghost use Rattle.events.specs.Event as event;
 ghost use Rattle.reorder.specs.Listing as spec;
 
 use crate::LENGTH;
-use acl::{EventAnswer, Given};
-use rule::refusal_number;
+use rule::{Refusal, refusal_number};
 
 // A session; the client by the digit of its id, `x` for the id that is too long; and the initial of the user name, `-` for none.
-#[derive(Clone, Copy)]
+#[derive(Clone, Copy, Debug, PartialEq, Eq)]
 pub enum Event {
     Connected(u64, u8, u8),
     Disconnected(u64, u8),
@@ -65,30 +64,31 @@ pub fn client(e: Event) -> u8
 }
 
 // What is recorded of an answer: 0 for done, else the number of the refusal.
-fn number_of(answer: EventAnswer) -> u8
+fn number_of(answer: Result<(), Refusal>) -> u8
     ensures { result ≡ spec.recorded (event.says answer) }
 {
     match answer {
-        EventAnswer::Done => 0,
-        EventAnswer::Refused(cause) => refusal_number(cause),
+        Ok(()) => 0,
+        Err(cause) => refusal_number(cause),
     }
 }
 
 // A client connects, under the name of this initial.
-fn named(store: &mut [u8; LENGTH], s: u64, id: &[u8], name: u8) -> EventAnswer
+#[tactic(auto, unfolding(crate::specs::Listing::name_of))]
+fn named(store: &mut [u8; LENGTH], s: u64, id: &[u8], name: u8) -> Result<(), Refusal>
     ensures result_value { event.says result ≡ event.cause (event.connected s id.now (spec.name_of name)) (view store.old) }
     ensures store_after { store.new ≡ event.after (event.connected s id.now (spec.name_of name)) store.old }
 {
     match name {
-        b'a' => acl::connected(store, s, id, Given::Length(3), b"ann"),
-        b'b' => acl::connected(store, s, id, Given::Length(2), b"bo"),
-        b'c' => acl::connected(store, s, id, Given::Length(2), b"cy"),
-        _ => acl::connected(store, s, id, Given::Absent, b""),
+        b'a' => acl::connected(store, s, id, Some(b"ann")),
+        b'b' => acl::connected(store, s, id, Some(b"bo")),
+        b'c' => acl::connected(store, s, id, Some(b"cy")),
+        _ => acl::connected(store, s, id, None),
     }
 }
 
 // A client connects.
-fn connects(store: &mut [u8; LENGTH], s: u64, client: u8, name: u8) -> EventAnswer
+fn connects(store: &mut [u8; LENGTH], s: u64, client: u8, name: u8) -> Result<(), Refusal>
     ensures result_value { event.says result ≡ event.cause (event.connected s (spec.id_of client) (spec.name_of name)) (view store.old) }
     ensures store_after { store.new ≡ event.after (event.connected s (spec.id_of client) (spec.name_of name)) store.old }
 {
@@ -101,7 +101,7 @@ fn connects(store: &mut [u8; LENGTH], s: u64, client: u8, name: u8) -> EventAnsw
 }
 
 // A client disconnects.
-fn disconnects(store: &mut [u8; LENGTH], s: u64, client: u8) -> EventAnswer
+fn disconnects(store: &mut [u8; LENGTH], s: u64, client: u8) -> Result<(), Refusal>
     ensures result_value { event.says result ≡ event.cause (event.disconnected s (spec.id_of client)) (view store.old) }
     ensures store_after { store.new ≡ event.after (event.disconnected s (spec.id_of client)) store.old }
 {

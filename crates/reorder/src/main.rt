@@ -11,7 +11,8 @@ mod running;
 mod saying;
 mod telling;
 
-use acl::{Opened, open};
+use acl::open;
+use rule::Fault;
 use running::EVENTS;
 use saying::say;
 
@@ -32,8 +33,8 @@ const EARLIER: [u8; EVENTS] = [6, 13, 15, 2, 10, 9, 7, 1, 8, 1, 7, 3, 5, 12, 14]
 // Opens a store for the rules. Says so where it is refused.
 fn opened(rt: &impl Print, store: &mut [u8; LENGTH]) {
     match open(store, 256, 8, 8, 8, &RULES) {
-        Opened::Done => {}
-        Opened::Refused(_, _) => {
+        Ok(()) => {}
+        Err(Fault { .. }) => {
             say(rt, b"the rules are refused\n");
         }
     }

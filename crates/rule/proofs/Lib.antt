@@ -5,7 +5,6 @@ pub mod TopicLaws
 pub mod ReadLaws
 pub mod RuleLaws
 pub mod TemplateLaws
-pub mod AgreementLaws
 pub mod FillLaws
 pub mod IdentityLaws
 pub mod StandsLaws

@@ -5,66 +5,43 @@ use native.Mathlib.Omega.{arith}
 use mathlib.Core.Path.{◌≡◌, refl, sym, ap, ◌∙◌}
 use mathlib.Core.Bool.{Bool, true, false, cond}
 use mathlib.Core.List.{List, ◌∷◌}
-use mathlib.Core.Option.{Option, none, some}
+use Rattle.std.specs.Prelude.{Option, None, Some, Ok, Err, Result}
 use lib.Dec.{ltb}
 use lib.ListN.{length, drop}
 use borrow.Author.Tests.{lt-ltb, le-ltb}
 use Rattle.json_text.specs.Lines.{lines, line_at, count_up_to}
 use Rattle.json_text.specs.Json.{line_value}
-use Rattle.json_text.specs.declared.Place.{Place}
-use Rattle.json_text.specs.declared.Place.TheVariants.{At}
 use Rattle.json_text.proofs.LineLaws.{lines_behind, lines_past}
 use Rattle.rule.specs.Limits.{lines_limit}
 use Rattle.rule.specs.Rule as spec
-use Rattle.rule.specs.RuleText.{Result, refused, gives, Fault, read_rule, fault_in, text_fault}
-use Rattle.rule.specs.Places.{topics_here, too_many, parts_here, control_here, users_of_place, with_topics, with_control, with_users, rule_behind, with_access, access_at, rule_here, fourth_of, rule_answer, rules_answer, faulty_line}
-use Rattle.rule.specs.declared.Word.{Word}
-use Rattle.rule.specs.declared.Word.TheVariants.{Allow, Deny, All, Connect, Publish, Subscribe, Pubsub, Other}
+use Rattle.rule.specs.RuleText.{Fault, over_lines, or_not_a_rule, read_rule, fault_in, text_fault}
+use Rattle.rule.specs.Places.{topics_here, too_many, parts_here, with_topics, with_access, rule_here, fourth_of, rule_answer, rules_answer, faulty_line}
 use Rattle.rule.specs.declared.Control.{Control}
-use Rattle.rule.specs.declared.ControlRead.{ControlRead}
 use Rattle.rule.specs.declared.Users.{Users}
-use Rattle.rule.specs.declared.UsersRead.{UsersRead}
-use Rattle.rule.specs.declared.UsersRead.TheVariants.{Users as UsersAre, Bad as BadUsers}
-use Rattle.rule.specs.declared.Topics.TheVariants.{Listed}
 use Rattle.rule.specs.declared.Rule.{Rule}
 use Rattle.rule.specs.declared.Refusal.{Refusal}
-use Rattle.rule.specs.declared.Refusal.TheVariants.{TooLong, NotARule}
-use Rattle.rule.specs.declared.RuleRead.{RuleRead}
-use Rattle.rule.specs.declared.RuleRead.TheVariants.{Rule as RuleIs, Refused}
+use Rattle.rule.specs.declared.Refusal.TheVariants.{TooLong}
 use Rattle.rule.specs.declared.Parts.{Parts}
-use Rattle.rule.specs.declared.RulesCounted.{RulesCounted}
-use Rattle.rule.specs.declared.RulesCounted.TheVariants.{Rules, Faulty as RulesFaulty}
 
 -- ---- a rule, from its parts' places
 
 pub topics_by : (line : List ℕ) (allow : Bool) (users : Users) (control : Control) (t : ℕ) {are : Bool} → topics_here line t ≡ are
-    → with_topics line allow users control (At t)
-    ≡ cond are (RuleIs (record { allow = allow; users = users; control = control; topics = Listed t })) (Refused NotARule)
+    → with_topics line allow users control (Some t)
+    ≡ cond are (Some (record { allow = allow; users = users; control = control; topics = Some t })) None
 unfolding with_topics
 topics_by line allow users control t e =
-    λ i. cond (e i) (RuleIs (record { allow = allow; users = users; control = control; topics = Listed t })) (Refused NotARule)
+    λ i. cond (e i) (Some (record { allow = allow; users = users; control = control; topics = Some t })) None
 
-pub behind_bad : (line : List ℕ) (parts : Parts) (allow : Bool) → users_of_place line allow parts.users ≡ BadUsers → rule_behind line parts allow ≡ Refused NotARule
-unfolding rule_behind with_users
-behind_bad line parts allow e = ap (λ (u : UsersRead). with_users line allow u parts.control parts.topics) e
-
-pub behind_by : (line : List ℕ) (parts : Parts) (allow : Bool) {users : Users} {control : ControlRead} {topics : Place}
-    → users_of_place line allow parts.users ≡ UsersAre users → control_here line parts.control ≡ control → parts.topics ≡ topics
-    → rule_behind line parts allow ≡ with_control line allow users control topics
-unfolding rule_behind with_users
-behind_by line parts allow {users} e q k =
-    ap (λ (u : UsersRead). with_users line allow u parts.control parts.topics) e ∙ (λ i. with_control line allow users (q i) (k i))
-
-pub here_by : (line : List ℕ) {parts : Parts} {over : Bool} {access : Place} → parts ≡ parts_here line → too_many line parts.topics ≡ over
-    → parts.access ≡ access → rule_here line ≡ cond over (Refused TooLong) (access_at line parts access)
+pub here_by : (line : List ℕ) {parts : Parts} {over : Bool} {access : Option ℕ} → parts ≡ parts_here line → too_many line parts.topics ≡ over
+    → parts.access ≡ access → rule_here line ≡ cond over (Err TooLong) (or_not_a_rule (with_access line parts access))
 unfolding rule_here
 here_by line {parts} e o q =
-    ap (λ (p : Parts). cond (too_many line p.topics) (Refused TooLong) (access_at line p p.access)) (sym e)
-    ∙ (λ i. cond (o i) (Refused TooLong) (access_at line parts (q i)))
+    ap (λ (p : Parts). cond (too_many line p.topics) (Err TooLong) (or_not_a_rule (with_access line p p.access))) (sym e)
+    ∙ (λ i. cond (o i) (Err TooLong) (or_not_a_rule (with_access line parts (q i))))
 
 -- ---- a text, by its lines
 
-pub text_over : (text : List ℕ) → lines_limit < length (lines text) → text_fault text ≡ some (record { cause = TooLong; line = suc lines_limit })
+pub text_over : (text : List ℕ) → lines_limit < length (lines text) → text_fault text ≡ Some over_lines
 unfolding text_fault
 text_over text h = rw (lt-ltb lines_limit (length (lines text)) h)
 
@@ -73,11 +50,11 @@ unfolding text_fault
 text_fits text h = rw (le-ltb lines_limit (length (lines text)) h)
 
 -- the first fault from line `n` on, by what reading that line answers; `rest` are the lines behind it
-unfoldable pub fault_on : ℕ → List (List ℕ) → RuleRead → Option Fault
-fault_on n rest (RuleIs r) = fault_in (n + 1) rest
-fault_on n rest (Refused cause) = some (record { cause = cause; line = n })
+unfoldable pub fault_on : ℕ → List (List ℕ) → Result Rule Refusal → Option Fault
+fault_on n rest (Ok r) = fault_in (n + 1) rest
+fault_on n rest (Err cause) = Some (record { cause = cause; line = n })
 
-fault_by : (text : List ℕ) (n at : ℕ) {line : List ℕ} {answer read : RuleRead} → at < length text → line ≡ line_at text at
+fault_by : (text : List ℕ) (n at : ℕ) {line : List ℕ} {answer read : Result Rule Refusal} → at < length text → line ≡ line_at text at
     → answer ≡ rule_answer (fourth_of (line_value line)) (read_rule line) → answer ≡ read
     → fault_in n (lines (drop at text)) ≡ fault_on n (lines (drop (at + length (line_at text at) + 1) text)) read
 unfolding fault_in fault_on rule_answer
@@ -87,11 +64,11 @@ fault_by text n at {line} h l e q =
     rest : List (List ℕ)
     rest = lines (drop (at + length (line_at text at) + 1) text)
 
-    by : (r : Result spec.Rule) →
-        elim r [ refused cause ↦ some (record { cause = cause; line = n }) | gives r ↦ fault_in (suc n) rest ]
+    by : (r : Result spec.Rule Refusal) →
+        elim r [ Err cause ↦ Some (record { cause = cause; line = n }) | Ok r ↦ fault_in (suc n) rest ]
         ≡ fault_on n rest (rule_answer (fourth_of (line_value line)) r)
-    by (refused cause) = refl
-    by (gives r) = ap (λ (k : ℕ). fault_in k rest) (sym (add-one n))
+    by (Err cause) = refl
+    by (Ok r) = ap (λ (k : ℕ). fault_in k rest) (sym (add-one n))
 
 -- `n` lines of a text, up to `at`, are rules
 pub record Passed (text : List ℕ) (n at : ℕ) : Type 0 where
@@ -100,9 +77,9 @@ pub record Passed (text : List ℕ) (n at : ℕ) : Type 0 where
   pub fault : fault_in (n + 1) (lines (drop at text)) ≡ fault_in 1 (lines text)
 
 -- one line more, which ends at `end`
-pub read_more : (text : List ℕ) (n at end : ℕ) {line : List ℕ} {answer : RuleRead} {rule : Rule} → Passed text n at → at < length text → (n ≡ lines_limit → ⊥)
+pub read_more : (text : List ℕ) (n at end : ℕ) {line : List ℕ} {answer : Result Rule Refusal} {rule : Rule} → Passed text n at → at < length text → (n ≡ lines_limit → ⊥)
     → end ≡ at + length (line_at text at) → line ≡ line_at text at
-    → answer ≡ rule_answer (fourth_of (line_value line)) (read_rule line) → answer ≡ RuleIs rule → Passed text (n + 1) (end + 1)
+    → answer ≡ rule_answer (fourth_of (line_value line)) (read_rule line) → answer ≡ Ok rule → Passed text (n + 1) (end + 1)
 unfolding fault_on
 read_more text n at end r h k p l e q =
     let next = ap length (lines_behind text at h) in
@@ -117,73 +94,58 @@ read_more text n at end r h k p l e q =
 
 -- the 257th line begins
 pub read_over : (text : List ℕ) (n at : ℕ) → Passed text n at → at < length text → n ≡ lines_limit
-    → RulesFaulty TooLong (suc lines_limit) ≡ rules_answer (length (lines text)) (text_fault text)
+    → Err over_lines ≡ rules_answer (length (lines text)) (text_fault text)
 unfolding rules_answer
 read_over text n at r h k =
     sym (ap (rules_answer (length (lines text))) (text_over text (omega (arith, r.all, ap length (lines_behind text at h)))))
 
 -- the line is faulty
-pub read_faulty : (text : List ℕ) (n at : ℕ) {line : List ℕ} {answer : RuleRead} {cause : Refusal} → Passed text n at → at < length text → line ≡ line_at text at
-    → answer ≡ rule_answer (fourth_of (line_value line)) (read_rule line) → answer ≡ Refused cause
-    → faulty_line (n + length (lines (drop at text))) cause (n + 1) ≡ rules_answer (length (lines text)) (text_fault text)
+pub read_faulty : (text : List ℕ) (n at : ℕ) {line : List ℕ} {answer : Result Rule Refusal} {cause : Refusal} → Passed text n at → at < length text → line ≡ line_at text at
+    → answer ≡ rule_answer (fourth_of (line_value line)) (read_rule line) → answer ≡ Err cause
+    → Err (faulty_line (n + length (lines (drop at text))) cause (n + 1)) ≡ rules_answer (length (lines text)) (text_fault text)
 unfolding faulty_line rules_answer fault_on text_fault
 read_faulty text n at {cause = cause} r h l e q = rw r.all (by (ltb lines_limit (length (lines text))))
   where
-    fault : fault_in 1 (lines text) ≡ some (record { cause = cause; line = n + 1 })
+    fault : fault_in 1 (lines text) ≡ Some (record { cause = cause; line = n + 1 })
     fault = sym r.fault ∙ fault_by text (n + 1) at h l e q
 
     by : (over : Bool)
-        → cond over (RulesFaulty TooLong (suc lines_limit)) (RulesFaulty cause (n + 1))
-        ≡ rules_answer (length (lines text)) (cond over (some (record { cause = TooLong; line = suc lines_limit })) (fault_in 1 (lines text)))
+        → Err (cond over over_lines (record { cause = cause; line = n + 1 }))
+        ≡ rules_answer (length (lines text)) (cond over (Some over_lines) (fault_in 1 (lines text)))
     by true = refl
     by false = rw fault
 
 -- no line is left
-pub read_all : (text : List ℕ) (n at : ℕ) → Passed text n at → length text ≤ at → Rules n ≡ rules_answer (length (lines text)) (text_fault text)
+pub read_all : (text : List ℕ) (n at : ℕ) → Passed text n at → length text ≤ at → Ok n ≡ rules_answer (length (lines text)) (text_fault text)
 unfolding rules_answer fault_in
 read_all text n at r h =
     let past = lines_past text at h in
     let all : n ≡ length (lines text) = omega (arith, r.all, r.few, ap length past) in
-    ap Rules all
+    ap Ok all
     ∙ sym
     (ap (rules_answer (length (lines text)))
     (text_fits text (omega (arith, r.few)) ∙ (sym r.fault ∙ ap (fault_in (n + 1)) past)))
 
 -- what the count of the other lines tells
 pub faulty_over : (rest : List ℕ) (n : ℕ) (cause : Refusal) (line : ℕ) → n ≤ lines_limit → lines_limit - n < count_up_to (lines_limit - n) rest
-    → RulesFaulty TooLong (suc lines_limit) ≡ faulty_line (n + length (lines rest)) cause line
+    → over_lines ≡ faulty_line (n + length (lines rest)) cause line
 unfolding faulty_line count_up_to
 faulty_over rest n cause line h k = rw (lt-ltb lines_limit (n + length (lines rest)) (omega arith))
 
 pub faulty_here : (rest : List ℕ) (n : ℕ) (cause : Refusal) (line : ℕ) → n ≤ lines_limit → count_up_to (lines_limit - n) rest ≤ lines_limit - n
-    → RulesFaulty cause line ≡ faulty_line (n + length (lines rest)) cause line
+    → record { cause = cause; line = line } ≡ faulty_line (n + length (lines rest)) cause line
 unfolding faulty_line count_up_to
 faulty_here rest n cause line h k = rw (le-ltb lines_limit (n + length (lines rest)) (omega arith))
 
 -- what the answers tell
-pub rules_told : {answer : RulesCounted} {k : ℕ} (n : ℕ) (f : Option Fault) → answer ≡ rules_answer n f → answer ≡ Rules k → (f ≡ none) × (k ≡ n)
+pub rules_told : {answer : Result ℕ Fault} {k : ℕ} (n : ℕ) (f : Option Fault) → answer ≡ rules_answer n f → answer ≡ Ok k → (f ≡ None) × (k ≡ n)
 unfolding rules_answer
-rules_told {answer} {k} n none e q = let same : k ≡ n = cc in (refl, same)
-rules_told n (some f) e q = let z : ◌≡◌ {A = ℕ} 0 1 = cc in absurd (omega arith)
+rules_told {answer} {k} n None e q = let same : k ≡ n = cc in (refl, same)
+rules_told n (Some f) e q = let z : ◌≡◌ {A = ℕ} 0 1 = cc in absurd (omega arith)
 
-pub rules_faulty_told : {answer : RulesCounted} {cause : Refusal} {line : ℕ} (n : ℕ) (f : Option Fault) → answer ≡ rules_answer n f
-    → answer ≡ RulesFaulty cause line → f ≡ some (record { cause = cause; line = line })
+pub rules_faulty_told : {answer : Result ℕ Fault} {cause : Refusal} {line : ℕ} (n : ℕ) (f : Option Fault) → answer ≡ rules_answer n f
+    → answer ≡ (Err (record { cause = cause; line = line })) → f ≡ Some (record { cause = cause; line = line })
 unfolding rules_answer
-rules_faulty_told n none e q = let z : ◌≡◌ {A = ℕ} 0 1 = cc in absurd (omega arith)
-rules_faulty_told {answer} {cause} {line} n (some f) e q =
-    let first : f.cause ≡ cause = cc in
-    let second : f.line ≡ line = cc in
-    λ i. some (record { cause = first i; line = second i })
-
--- ---- the access
-
-pub no_access : (line : List ℕ) (parts : Parts) (w : Word) → (w ≡ Allow → ⊥) → (w ≡ Deny → ⊥) → with_access line parts w ≡ Refused NotARule
-unfolding with_access
-no_access line parts Allow h k = absurd (h refl)
-no_access line parts Deny h k = absurd (k refl)
-no_access line parts All h k = refl
-no_access line parts Connect h k = refl
-no_access line parts Publish h k = refl
-no_access line parts Subscribe h k = refl
-no_access line parts Pubsub h k = refl
-no_access line parts Other h k = refl
+rules_faulty_told n None e q = let z : ◌≡◌ {A = ℕ} 0 1 = cc in absurd (omega arith)
+rules_faulty_told {answer} {cause} {line} n (Some f) e q =
+    let same : f ≡ record { cause = cause; line = line } = cc in ap Some same

@@ -3,7 +3,8 @@ use Prim.Native.Nat.{ℕ, zero, suc, ◌+◌}
 use mathlib.Core.Path.{◌≡◌, refl, ap, subst, ◌∙◌}
 use mathlib.Core.Bool.{Bool, true, false, ◌||◌, cond}
 use mathlib.Core.List.{List, [], ◌∷◌}
-use mathlib.Core.Option.{Option, none, some, bind, map}
+use Rattle.std.specs.Prelude.{Option, None, Some, Ok, Err, option_map}
+use Rattle.text.specs.Maybe.{bind}
 use native.Mathlib.Omega.{arith}
 use lib.Dec.{ltb}
 use lib.ListN.{length}
@@ -16,12 +17,12 @@ use Rattle.json_text.specs.Access.{value_here}
 use Rattle.json_text.proofs.AccessLaws.{ElementsIn, MembersIn, array_is, object_is, string_here, line_is}
 use Rattle.rule.specs.Rule as spec
 use Rattle.rule.specs.Rule.{Located, Value, is_word, is_template, nth, named, value_named, as_text, as_bool, as_array, as_object, access_of, password_of, user_of, users_in, everyone, users_of, control_of, topic_of, topics_in, topics_of, rule_in, rule_of}
-use Rattle.rule.specs.RuleText.{refused, gives, topics_over, or_not_a_rule, rule_from, read_rule}
+use Rattle.rule.specs.RuleText.{topics_over, or_not_a_rule, rule_from, read_rule}
 use Rattle.rule.specs.Limits.{line_limit, text_limit}
 use Rattle.rule.specs.declared.Refusal.TheVariants.{TooLong}
 use Rattle.rule.specs.Rule.{means}
 use Rattle.rule.specs.Identity.{Client, identity}
-use Rattle.rule.specs.Places.{placed_protocol, placed_rule, filling, filled_into, filling_at, filled_at}
+use Rattle.rule.specs.Places.{placed_rule, filling, filled_into, filling_at, filled_at}
 use Rattle.rule.specs.Agreement.{identity_at}
 use Rattle.rule.proofs.IdentityLaws.{Stands, Listed, unlisted, listed, UserStands, UsersStand, users_of_rule, identity-means}
 
@@ -32,20 +33,20 @@ unfolding bind
 listed-bind o f unlisted g = unlisted
 listed-bind o f (listed a p) g = g a p
 
-listed-map : {A B : Type 0} {P : A → Type 0} {Q : B → Type 0} (o : Option A) (f : A → B) → Listed P o → ((a : A) → P a → Q (f a)) → Listed Q (map f o)
+listed-map : {A B : Type 0} {P : A → Type 0} {Q : B → Type 0} (o : Option A) (f : A → B) → Listed P o → ((a : A) → P a → Q (f a)) → Listed Q (option_map f o)
 listed-map o f unlisted g = unlisted
 listed-map o f (listed a p) g = listed (f a) (g a p)
 
 anything : {A : Type 0} (o : Option A) → Listed (λ (a : A). Unit {0}) o
-anything none = unlisted
-anything (some a) = listed a tt
+anything None = unlisted
+anything (Some a) = listed a tt
 
 module _ (line : List ℕ) where
   -- ---- values
 
   pub record ValueStands (v : Value) : Type 0 where
     pub next : ℕ
-    pub reads : value_here line v.at ≡ some (record { value = v.value; next = next })
+    pub reads : value_here line v.at ≡ Some (record { value = v.value; next = next })
 
   pub record MembersStand (ms : Members) : Type 0 where
     pub low : ℕ
@@ -69,22 +70,22 @@ module _ (line : List ℕ) where
   unfolding named
   named_stands name no_member found low high h k = k
   named_stands name (member at n value_start value rest) found low high h k =
-      named_stands name rest (cond (same n name) (some (record { at = value_start; value = value })) found) h.0 high h.3 (by (same n name))
+      named_stands name rest (cond (same n name) (Some (record { at = value_start; value = value })) found) h.0 high h.3 (by (same n name))
     where
-      by : (b : Bool) → Listed ValueStands (cond b (some (record { at = value_start; value = value })) found)
+      by : (b : Bool) → Listed ValueStands (cond b (Some (record { at = value_start; value = value })) found)
       by true = listed _ (record { next = h.0; reads = h.2.reads })
       by false = k
 
   pub member_stands : (name : List ℕ) (ms : Members) → MembersStand ms → Listed ValueStands (value_named name ms)
   unfolding value_named
-  member_stands name ms s = named_stands name ms none s.low s.high s.members unlisted
+  member_stands name ms s = named_stands name ms None s.low s.high s.members unlisted
 
   pub text_stands : (v : Value) → ValueStands v → Listed (Stands line) (as_text v)
   unfolding as_text
   text_stands v s = by v.value refl
     where
       by : (j : Json) → v.value ≡ j
-          → Listed (Stands line) (elim j [ null ↦ none | bool b ↦ none | number n ↦ none | text t ↦ some (record { at = v.at; text = t }) | array es ↦ none | object ms ↦ none ])
+          → Listed (Stands line) (elim j [ null ↦ None | bool b ↦ None | number n ↦ None | text t ↦ Some (record { at = v.at; text = t }) | array es ↦ None | object ms ↦ None ])
       by null e = unlisted
       by (bool b) e = unlisted
       by (number n) e = unlisted
@@ -99,7 +100,7 @@ module _ (line : List ℕ) where
   object_stands v s = by v.value refl
     where
       by : (j : Json) → v.value ≡ j
-          → Listed MembersStand (elim j [ null ↦ none | bool b ↦ none | number n ↦ none | text t ↦ none | array es ↦ none | object ms ↦ some ms ])
+          → Listed MembersStand (elim j [ null ↦ None | bool b ↦ None | number n ↦ None | text t ↦ None | array es ↦ None | object ms ↦ Some ms ])
       by null e = unlisted
       by (bool b) e = unlisted
       by (number n) e = unlisted
@@ -112,7 +113,7 @@ module _ (line : List ℕ) where
   array_stands v s = by v.value refl
     where
       by : (j : Json) → v.value ≡ j
-          → Listed ElementsStand (elim j [ null ↦ none | bool b ↦ none | number n ↦ none | text t ↦ none | array es ↦ some es | object ms ↦ none ])
+          → Listed ElementsStand (elim j [ null ↦ None | bool b ↦ None | number n ↦ None | text t ↦ None | array es ↦ Some es | object ms ↦ None ])
       by null e = unlisted
       by (bool b) e = unlisted
       by (number n) e = unlisted
@@ -127,8 +128,8 @@ module _ (line : List ℕ) where
 
   pub password_stands : (o : Option Value) → Listed ValueStands o → Listed (Listed (Stands line)) (password_of o)
   unfolding password_of
-  password_stands o unlisted = listed none unlisted
-  password_stands o (listed v s) = listed-map (as_text v) some (text_stands v s) (λ t p. listed t p)
+  password_stands o unlisted = listed None unlisted
+  password_stands o (listed v s) = listed-map (as_text v) Some (text_stands v s) (λ t p. listed t p)
 
   pub user_stands : (allow : Bool) (ms : Members) → MembersStand ms → Listed (Listed (UserStands line)) (user_of allow ms)
   unfolding user_of
@@ -140,18 +141,18 @@ module _ (line : List ℕ) where
       by : (o : Option Located) → Listed (Stands line) o → (b : Bool)
           → Listed (Listed (UserStands line))
           (elim o [
-            | none ↦ some none
-            | some name ↦
+            | None ↦ Some None
+            | Some name ↦
                 cond b
-                (map
-                (λ password. some (record { name = name; password = password; superuser = superuser }))
+                (option_map
+                (λ password. Some (record { name = name; password = password; superuser = superuser }))
                 (password_of (value_named (ascii "password") ms)))
-                (some (some (record { name = name; password = none; superuser = false })))
+                (Some (Some (record { name = name; password = None; superuser = false })))
           ])
-      by o unlisted b = listed none unlisted
+      by o unlisted b = listed None unlisted
       by o (listed name h) true =
           listed-map (password_of (value_named (ascii "password") ms))
-          (λ password. some (record { name = name; password = password; superuser = superuser }))
+          (λ password. Some (record { name = name; password = password; superuser = superuser }))
           (password_stands (value_named (ascii "password") ms) (member_stands (ascii "password") ms s))
           (λ password k. listed _ (record { name = h; password = k }))
       by o (listed name h) false = listed _ (listed _ (record { name = h; password = unlisted }))
@@ -166,17 +167,17 @@ module _ (line : List ℕ) where
   unfolding users_of
   users_stand allow v s = by (as_object v) (object_stands v s)
     where
-      all : (b : Bool) → Listed (UsersStand line) (cond b (some everyone) none)
+      all : (b : Bool) → Listed (UsersStand line) (cond b (Some everyone) None)
       all true = listed _ (record { user = unlisted; clientid = unlisted; ipaddr = unlisted })
       all false = unlisted
 
       by : (o : Option Members) → Listed MembersStand o
           → Listed (UsersStand line)
           (elim o [
-            | some ms ↦ users_in allow ms
-            | none ↦ bind (as_text v) (λ t. cond (is_word (ascii "all") t.text) (some everyone) none)
+            | Some ms ↦ users_in allow ms
+            | None ↦ bind (as_text v) (λ t. cond (is_word (ascii "all") t.text) (Some everyone) None)
           ])
-      by o unlisted = listed-bind (as_text v) (λ t. cond (is_word (ascii "all") t.text) (some everyone) none) (text_stands v s) (λ t h. all (is_word (ascii "all") t.text))
+      by o unlisted = listed-bind (as_text v) (λ t. cond (is_word (ascii "all") t.text) (Some everyone) None) (text_stands v s) (λ t h. all (is_word (ascii "all") t.text))
       by o (listed ms h) = users_in_stand allow ms h
 
   -- ---- topics
@@ -191,15 +192,15 @@ module _ (line : List ℕ) where
   topic_stands v s = by (as_object v) (object_stands v s)
     where
       plain : (t : Located) → Stands line t → (b : Bool)
-          → Listed (λ (t : spec.Topic). Stands line t.text) (cond b (some (record { eq = false; text = t })) none)
+          → Listed (λ (t : spec.Topic). Stands line t.text) (cond b (Some (record { eq = false; text = t })) None)
       plain t h true = listed _ h
       plain t h false = unlisted
 
       by : (o : Option Members) → Listed MembersStand o
           → Listed (λ (t : spec.Topic). Stands line t.text)
           (elim o [
-            | some ms ↦ map (λ t. record { eq = true; text = t }) (bind (value_named (ascii "eq") ms) as_text)
-            | none ↦ bind (as_text v) (λ t. cond (is_template t.text || valid_filter t.text) (some (record { eq = false; text = t })) none)
+            | Some ms ↦ option_map (λ t. record { eq = true; text = t }) (bind (value_named (ascii "eq") ms) as_text)
+            | None ↦ bind (as_text v) (λ t. cond (is_template t.text || valid_filter t.text) (Some (record { eq = false; text = t })) None)
           ])
       by o unlisted = listed-bind (as_text v) _ (text_stands v s) (λ t h. plain t h (is_template t.text || valid_filter t.text))
       by o (listed ms h) = listed-map (bind (value_named (ascii "eq") ms) as_text) _ (member_text (ascii "eq") ms h) (λ t k. k)
@@ -214,10 +215,10 @@ module _ (line : List ℕ) where
 
   pub topics_stand : (o : Option Value) → Listed ValueStands o → Listed (Listed TopicsStand) (topics_of o)
   unfolding topics_of
-  topics_stand o unlisted = listed none unlisted
+  topics_stand o unlisted = listed None unlisted
   topics_stand o (listed v s) =
       listed-bind (as_array v) _ (array_stands v s)
-      (λ es h. listed-map (topics_in es) some (topics_in_stand es h.low h.high h.elements) (λ topics k. listed topics k))
+      (λ es h. listed-map (topics_in es) Some (topics_in_stand es h.low h.high h.elements) (λ topics k. listed topics k))
 
   -- ---- a rule
 
@@ -243,46 +244,46 @@ module _ (line : List ℕ) where
   rule_stands v s = by v.value (array_stands v s)
     where
       by : (j : Json)
-          → Listed ElementsStand (elim j [ null ↦ none | bool b ↦ none | number n ↦ none | text t ↦ none | array es ↦ some es | object ms ↦ none ])
-          → Listed RuleStands (elim j [ null ↦ none | bool b ↦ none | number n ↦ none | text t ↦ none | array es ↦ rule_in es | object ms ↦ none ])
+          → Listed ElementsStand (elim j [ null ↦ None | bool b ↦ None | number n ↦ None | text t ↦ None | array es ↦ Some es | object ms ↦ None ])
+          → Listed RuleStands (elim j [ null ↦ None | bool b ↦ None | number n ↦ None | text t ↦ None | array es ↦ rule_in es | object ms ↦ None ])
       by null h = unlisted
       by (bool b) h = unlisted
       by (number n) h = unlisted
       by (text t) h = unlisted
-      by (array es) h = inside (some es) refl h
+      by (array es) h = inside (Some es) refl h
         where
-          inside : (o : Option Elements) → o ≡ some es → Listed ElementsStand o → Listed RuleStands (rule_in es)
+          inside : (o : Option Elements) → o ≡ Some es → Listed ElementsStand o → Listed RuleStands (rule_in es)
           inside o e unlisted = let z : ◌≡◌ {A = ℕ} 0 1 = cc in absurd (omega arith)
           inside o e (listed fs k) = let same-one : fs ≡ es = cc in subst (λ x. Listed RuleStands (rule_in x)) same-one (rule_in_stands fs k)
       by (object ms) h = unlisted
 
   -- a rule that was read stands in its line
-  pub read_stands : (r : spec.Rule) → read_rule line ≡ gives r → RuleStands r
+  pub read_stands : (r : spec.Rule) → read_rule line ≡ Ok r → RuleStands r
   unfolding read_rule rule_from or_not_a_rule
   read_stands r e = short (ltb line_limit (length line)) e
     where
-      rule : (o : Option spec.Rule) → Listed RuleStands o → or_not_a_rule o ≡ gives r → RuleStands r
+      rule : (o : Option spec.Rule) → Listed RuleStands o → or_not_a_rule o ≡ Ok r → RuleStands r
       rule o unlisted q = let z : ◌≡◌ {A = ℕ} 0 1 = cc in absurd (omega arith)
       rule o (listed s h) q = let one : s ≡ r = cc in subst RuleStands one h
 
-      fits : (v : Json) → line_value line ≡ some v → (b : Bool) → cond b (refused TooLong) (or_not_a_rule (rule_of v)) ≡ gives r → RuleStands r
+      fits : (v : Json) → line_value line ≡ Some v → (b : Bool) → cond b (Err TooLong) (or_not_a_rule (rule_of v)) ≡ Ok r → RuleStands r
       fits v f true q = let z : ◌≡◌ {A = ℕ} 0 1 = cc in absurd (omega arith)
       fits v f false q =
           let h = line_is line f in
           rule (rule_of v) (rule_stands (record { at = skip_blanks line 0; value = v }) (record { next = h.0; reads = h.1 })) q
 
-      value : (o : Option Json) → line_value line ≡ o → rule_from o ≡ gives r → RuleStands r
-      value none f q = let z : ◌≡◌ {A = ℕ} 0 1 = cc in absurd (omega arith)
-      value (some v) f q = fits v f (ltb text_limit (longest v) || topics_over v) q
+      value : (o : Option Json) → line_value line ≡ o → rule_from o ≡ Ok r → RuleStands r
+      value None f q = let z : ◌≡◌ {A = ℕ} 0 1 = cc in absurd (omega arith)
+      value (Some v) f q = fits v f (ltb text_limit (longest v) || topics_over v) q
 
-      short : (b : Bool) → cond b (refused TooLong) (rule_from (line_value line)) ≡ gives r → RuleStands r
+      short : (b : Bool) → cond b (Err TooLong) (rule_from (line_value line)) ≡ Ok r → RuleStands r
       short true q = let z : ◌≡◌ {A = ℕ} 0 1 = cc in absurd (omega arith)
       short false q = value (line_value line) refl q
 
   -- what `identity` answers for a rule that was read is what the rule means
   pub identity_read :
-      (topics : Option Value) (r : spec.Rule) (c : Client) → read_rule line ≡ gives r
-      → identity_at line (placed_rule topics r).users c.id c.name c.password c.address (placed_protocol c.protocol) ≡ identity (means r) c
+      (topics : Option Value) (r : spec.Rule) (c : Client) → read_rule line ≡ Ok r
+      → identity_at line (placed_rule topics r).users c ≡ identity (means r) c
   unfolding placed_rule
   identity_read topics r c e = identity-means line r c (read_stands r e).users
 

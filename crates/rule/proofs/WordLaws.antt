@@ -1,29 +1,24 @@
 -- Laws of the words of `specs/Rule.antt` and `specs/Places.antt`. Assumes nothing.
 use Prim.Native.Nat.{ℕ, ◌+◌, ◌≤◌, ◌<◌}
-use mathlib.Core.Path.{◌≡◌, sym, ◌∙◌}
+use mathlib.Core.Path.{◌≡◌, sym, ap, ◌∙◌}
 use mathlib.Core.Bool.{Bool, true, false, ◌&&◌, cond}
 use mathlib.Core.List.{List, map}
-use mathlib.Core.Option.{none, some}
+use Rattle.std.specs.Prelude.{None, Some, option_and_then}
 use native.Mathlib.Numerals.{add-one}
 use native.Mathlib.Omega.{arith}
 use borrow.Author.Tests.{eq-eqb, ne_eqb}
-use lib.Dec.{eqb, leb}
+use lib.Dec.{eqb}
 use lib.ListN.{length, drop, get_or, length-map, drop_of_length-le}
 use lib.Seq.{drop-cons}
 use Rattle.text.specs.Ascii.{ascii}
 use Rattle.text.specs.Text.{same}
 use Rattle.text.proofs.Laws.{same_lengths}
-use Rattle.json_text.specs.Utf8.{between}
 use Rattle.json_text.specs.Strings.{Decoded, string_at}
 use Rattle.rule.specs.Rule.{lower, is_word}
 use Rattle.rule.specs.Places.{word_of, word_at}
-use Rattle.rule.specs.declared.Word.TheVariants.{Allow, Deny, All, Connect, Publish, Subscribe, Pubsub, Other}
+use Rattle.rule.specs.declared.Word.TheVariants.{Allow, Deny, All, Connect, Publish, Subscribe, Pubsub}
 
 -- ---- a letter and a word
-
-pub lower_by : (b : ℕ) {m n : Bool} → leb 0x41 b ≡ m → leb b 0x5a ≡ n → lower b ≡ cond (m && n) (b + 32) b
-unfolding lower between
-lower_by b m n = λ i. cond (m i && n i) (b + 32) b
 
 -- a word of another length is another word
 pub word_lengths : (word t : List ℕ) → (length t ≡ length word → ⊥) → is_word word t ≡ false
@@ -53,13 +48,13 @@ word_end word t i h k = rw (drop_of_length-le word h, drop_of_length-le t k)
 pub word_by :
     (t : List ℕ) {a b c d e f g : Bool} → is_word (ascii "allow") t ≡ a → is_word (ascii "deny") t ≡ b → is_word (ascii "all") t ≡ c
     → is_word (ascii "connect") t ≡ d → is_word (ascii "publish") t ≡ e → is_word (ascii "subscribe") t ≡ f → is_word (ascii "pubsub") t ≡ g
-    → word_of t ≡ cond a Allow (cond b Deny (cond c All (cond d Connect (cond e Publish (cond f Subscribe (cond g Pubsub Other))))))
+    → word_of t ≡ cond a (Some Allow) (cond b (Some Deny) (cond c (Some All) (cond d (Some Connect) (cond e (Some Publish) (cond f (Some Subscribe) (cond g (Some Pubsub) None))))))
 unfolding word_of
 word_by t a b c d e f g =
-    λ i. cond (a i) Allow (cond (b i) Deny (cond (c i) All (cond (d i) Connect (cond (e i) Publish (cond (f i) Subscribe (cond (g i) Pubsub Other))))))
+    λ i. cond (a i) (Some Allow) (cond (b i) (Some Deny) (cond (c i) (Some All) (cond (d i) (Some Connect) (cond (e i) (Some Publish) (cond (f i) (Some Subscribe) (cond (g i) (Some Pubsub) None))))))
 
 -- no word is longer than nine bytes
-pub word_long : (t : List ℕ) → 9 < length t → word_of t ≡ Other
+pub word_long : (t : List ℕ) → 9 < length t → word_of t ≡ None
 word_long t h =
     word_by t
     (shorter (ascii "allow") (omega arith))
@@ -73,10 +68,10 @@ word_long t h =
     shorter : (word : List ℕ) → length word ≤ 9 → is_word word t ≡ false
     shorter word k = word_lengths word t (λ (e : length t ≡ length word). omega arith)
 
-pub word_nowhere : (line : List ℕ) (at : ℕ) → string_at line at ≡ none → word_at line at ≡ Other
+pub word_nowhere : (line : List ℕ) (at : ℕ) → string_at line at ≡ None → word_at line at ≡ None
 unfolding word_at
-word_nowhere line at e = λ i. elim (e i) [ none ↦ Other | some d ↦ word_of d.text ]
+word_nowhere line at e = ap (option_and_then (λ (d : Decoded). word_of d.text)) e
 
-pub word_here : (line : List ℕ) (at : ℕ) {d : Decoded} → string_at line at ≡ some d → word_at line at ≡ word_of d.text
+pub word_here : (line : List ℕ) (at : ℕ) {d : Decoded} → string_at line at ≡ Some d → word_at line at ≡ word_of d.text
 unfolding word_at
-word_here line at e = λ i. elim (e i) [ none ↦ Other | some d ↦ word_of d.text ]
+word_here line at e = ap (option_and_then (λ (d : Decoded). word_of d.text)) e

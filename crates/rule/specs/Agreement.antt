@@ -1,57 +1,38 @@
 -- Identity on a rule that is given by places in its line.
-use Rattle.std.specs.Prelude.{ℕ, Bool, true, false, ◌&&◌, cond, List, eqb}
-use Rattle.std.proofs.Math.Option.{Option, none, some}
+use Rattle.std.specs.Prelude.{ℕ, Bool, false, ◌&&◌, cond, List, Option, None, Some, is_none}
 use Rattle.json_text.specs.Access.{string_is}
-use Rattle.json_text.specs.declared.Place.{Place}
-use Rattle.json_text.specs.declared.Place.TheVariants.{At, Nowhere}
+use Rattle.rule.specs.Identity.{Client, is_number, if_listed}
 use Rattle.rule.specs.declared.User.{User}
-use Rattle.rule.specs.declared.User.TheVariants.{Anyone, Named}
 use Rattle.rule.specs.declared.Users.{Users}
-use Rattle.rule.specs.declared.Protocol.{Protocol}
-use Rattle.rule.specs.declared.Protocol.TheVariants.{Any, Is}
-use Rattle.rule.specs.declared.Identity.{Identity}
-use Rattle.rule.specs.declared.Identity.TheVariants.{Agrees, Differs}
 
 -- the string at a place is the text that is given
 unfoldable pub is_given : List ℕ → ℕ → Option (List ℕ) → Bool
-is_given line at none = false
-is_given line at (some t) = string_is line at t
+is_given line at None = false
+is_given line at (Some t) = string_is line at t
 
-unfoldable pub place_agrees : List ℕ → Place → Option (List ℕ) → Bool
-place_agrees line Nowhere o = true
-place_agrees line (At p) o = is_given line p o
+-- a part that is listed agrees; one that is not, with everyone
+unfoldable pub place_agrees : List ℕ → Option ℕ → Option (List ℕ) → Bool
+place_agrees line place given = if_listed place (λ p. is_given line p given)
 
-unfoldable pub user_place_agrees : List ℕ → User → Option (List ℕ) → Option (List ℕ) → Bool
-user_place_agrees line Anyone name password = true
-user_place_agrees line (Named at secret flag) name password = is_given line at name && place_agrees line secret password
+unfoldable pub user_place_agrees : List ℕ → Option User → Option (List ℕ) → Option (List ℕ) → Bool
+user_place_agrees line user name password = if_listed user (λ u. is_given line u.name name && place_agrees line u.password password)
 
-unfoldable pub protocol_given : ℕ → Protocol → Bool
-protocol_given n Any = false
-protocol_given n (Is m) = eqb n m
+unfoldable pub protocol_agrees : Option ℕ → Option ℕ → Bool
+protocol_agrees listed given = if_listed listed (λ n. is_number n given)
 
-unfoldable pub protocol_agrees : Protocol → Protocol → Bool
-protocol_agrees Any given = true
-protocol_agrees (Is n) given = protocol_given n given
-
-unfoldable pub is_nowhere : Place → Bool
-is_nowhere Nowhere = true
-is_nowhere (At p) = false
-
-unfoldable pub any_protocol : Protocol → Bool
-any_protocol Any = true
-any_protocol (Is n) = false
-
-unfoldable pub flag_of_user : User → Bool
-flag_of_user Anyone = false
-flag_of_user (Named at secret flag) = flag
+-- "only a name carries one"
+unfoldable pub flag_of_user : Option User → Bool
+flag_of_user None = false
+flag_of_user (Some u) = u.superuser
 
 unfoldable pub flag_of : Users → Bool
-flag_of u = any_protocol u.protocol && (is_nowhere u.ipaddr && (is_nowhere u.clientid && flag_of_user u.user))
+flag_of u = is_none u.protocol && (is_none u.ipaddr && (is_none u.clientid && flag_of_user u.user))
 
-unfoldable pub identity_at : List ℕ → Users → List ℕ → Option (List ℕ) → Option (List ℕ) → Option (List ℕ) → Protocol → Identity
-identity_at line u id name password address protocol =
+-- the superuser flag, if every listed user agrees
+unfoldable pub identity_at : List ℕ → Users → Client → Option Bool
+identity_at line u c =
     cond
-    (user_place_agrees line u.user name password
-    && (place_agrees line u.clientid (some id) && (place_agrees line u.ipaddr address && protocol_agrees u.protocol protocol)))
-    (Agrees (flag_of u))
-    Differs
+    (user_place_agrees line u.user c.name c.password
+    && (place_agrees line u.clientid (Some c.id) && (place_agrees line u.ipaddr c.address && protocol_agrees u.protocol c.protocol)))
+    (Some (flag_of u))
+    None

@@ -1,10 +1,7 @@
 -- Does a rule mean this client? Document 01, Identity; `Rule::hit` and `User::hit` of config.rs.
-use Rattle.std.specs.Prelude.{ℕ, Bool, true, false, ◌&&◌, cond, List, eqb}
-use Rattle.std.proofs.Math.Option.{Option, none, some}
+use Rattle.std.specs.Prelude.{ℕ, Bool, true, false, ◌&&◌, cond, List, eqb, Option, None, Some, is_some}
 use Rattle.text.specs.Text.{same}
 use Rattle.rule.specs.Rule.{UserOf, Meaning}
-use Rattle.rule.specs.declared.Identity.{Identity}
-use Rattle.rule.specs.declared.Identity.TheVariants.{Agrees, Differs}
 
 -- who asks: the client id, and what else is given
 pub record Client : Type 0 where
@@ -16,17 +13,17 @@ pub record Client : Type 0 where
 
 -- "equal and present"
 unfoldable pub is_text : List ℕ → Option (List ℕ) → Bool
-is_text t none = false
-is_text t (some given) = same t given
+is_text t None = false
+is_text t (Some given) = same t given
 
 unfoldable pub is_number : ℕ → Option ℕ → Bool
-is_number n none = false
-is_number n (some given) = eqb n given
+is_number n None = false
+is_number n (Some given) = eqb n given
 
 -- a user that is listed agrees; one that is not, with everyone
 unfoldable pub if_listed : {A : Type 0} → Option A → (A → Bool) → Bool
-if_listed none agrees = true
-if_listed (some a) agrees = agrees a
+if_listed None agrees = true
+if_listed (Some a) agrees = agrees a
 
 -- "Name: equal, and where an allow rule has a password, one is given and equal" (a deny rule holds none)
 unfoldable pub user_agrees : Client → UserOf (List ℕ) → Bool
@@ -39,18 +36,14 @@ agrees r c =
     && (if_listed r.clientid (λ t. same t c.id)
     && (if_listed r.ipaddr (λ t. is_text t c.address) && if_listed r.protocol (λ n. is_number n c.protocol)))
 
-unfoldable pub is_listed : {A : Type 0} → Option A → Bool
-is_listed none = false
-is_listed (some a) = true
-
 unfoldable pub user_flag : Option (UserOf (List ℕ)) → Bool
-user_flag none = false
-user_flag (some u) = u.superuser
+user_flag None = false
+user_flag (Some u) = u.superuser
 
 -- "The superuser flag is that of the last listed user, and only a name carries one": users are listed as user, clientid, ipaddr, protocol
 unfoldable pub superuser : Meaning → Bool
 superuser r =
-    cond (is_listed r.protocol) false (cond (is_listed r.ipaddr) false (cond (is_listed r.clientid) false (user_flag r.user)))
+    cond (is_some r.protocol) false (cond (is_some r.ipaddr) false (cond (is_some r.clientid) false (user_flag r.user)))
 
-unfoldable pub identity : Meaning → Client → Identity
-identity r c = cond (agrees r c) (Agrees (superuser r)) Differs
+unfoldable pub identity : Meaning → Client → Option Bool
+identity r c = cond (agrees r c) (Some (superuser r)) None

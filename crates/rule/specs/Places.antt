@@ -1,96 +1,74 @@
 -- What the reading functions answer: rules by the places of their texts in the line.
-use Rattle.std.specs.Prelude.{ℕ, zero, suc, ◌%◌, Bool, true, false, ◌&&◌, ◌||◌, cond, List, ltb, leb, length, take}
-use Rattle.std.proofs.Math.Option
-use Rattle.std.proofs.Math.Option.{Option, none, some, bind}
+use Rattle.std.specs.Prelude.{ℕ, zero, suc, ◌%◌, Bool, true, false, ◌&&◌, ◌||◌, cond, List, ltb, leb, length, Option, None, Some, is_some, option_map, option_and_then, Ok, Err, Result, ⊤}
+use Rattle.text.specs.Maybe.{bind}
 use Rattle.text.specs.Ascii.{ascii}
-use Rattle.text.specs.Text.{written}
+use Rattle.text.specs.Text.{fitted, replace, written}
 use Rattle.topic.specs.Topic.{valid_filter}
 use Rattle.json_text.specs.Strings.{Decoded, string_at}
 use Rattle.json_text.specs.Json.{Json, Elements, Members, is_at, skip_blanks, value_at, depth_limit}
 use Rattle.json_text.specs.Access.{kind_at, first_item, next_item, element_count}
 use Rattle.json_text.specs.declared.Kind.{Kind}
 use Rattle.json_text.specs.declared.Kind.TheVariants.{Number, Text, Array, Object, Word as WordKind, Blank, Other as OtherKind}
-use Rattle.json_text.specs.declared.Place.{Place}
-use Rattle.json_text.specs.declared.Place.TheVariants.{At, Nowhere}
-use Rattle.json_text.specs.declared.Found.{Found}
-use Rattle.json_text.specs.declared.Found.TheVariants.{Is as FoundIs, Absent as NotFound}
-use Rattle.json_text.specs.declared.Truth.{Truth}
-use Rattle.json_text.specs.declared.Truth.TheVariants.{Holds, Unknown}
 use Rattle.rule.specs.Limits.{text_limit, id_limit, topics_limit, lines_limit}
 use Rattle.rule.specs.Rule as spec
 use Rattle.rule.specs.Rule.{Located, Value, is_word, is_template, as_text, as_number, as_bool, as_object, value_named, nth}
 use Rattle.rule.specs.Fill.{fill}
-use Rattle.rule.specs.RuleText.{Result, refused, gives, Fault}
+use Rattle.rule.specs.RuleText.{Fault, over_lines, or_not_a_rule}
 use Rattle.rule.specs.declared.Word.{Word}
-use Rattle.rule.specs.declared.Word.TheVariants.{Allow, Deny, All as WordAll, Connect as WordConnect, Publish as WordPublish, Subscribe as WordSubscribe, Pubsub as WordPubsub, Other}
+use Rattle.rule.specs.declared.Word.TheVariants.{Allow, Deny, All as WordAll, Connect as WordConnect, Publish as WordPublish, Subscribe as WordSubscribe, Pubsub as WordPubsub}
 use Rattle.rule.specs.declared.Control.{Control}
 use Rattle.rule.specs.declared.Control.TheVariants.{All, Connect, Publish, Subscribe, Pubsub}
-use Rattle.rule.specs.declared.ControlRead.{ControlRead}
-use Rattle.rule.specs.declared.ControlRead.TheVariants.{Is as ControlIs, Bad as BadControl}
 use Rattle.rule.specs.declared.User.{User}
-use Rattle.rule.specs.declared.User.TheVariants.{Anyone, Named}
-use Rattle.rule.specs.declared.UserRead.{UserRead}
-use Rattle.rule.specs.declared.UserRead.TheVariants.{User as UserIs, Bad as BadUser}
-use Rattle.rule.specs.declared.PasswordRead.{PasswordRead}
-use Rattle.rule.specs.declared.PasswordRead.TheVariants.{Password, Bad as BadPassword}
-use Rattle.rule.specs.declared.Protocol.{Protocol}
-use Rattle.rule.specs.declared.Protocol.TheVariants.{Any, Is as ProtocolIs}
 use Rattle.rule.specs.declared.Users.{Users}
-use Rattle.rule.specs.declared.UsersRead.{UsersRead}
-use Rattle.rule.specs.declared.UsersRead.TheVariants.{Users as UsersAre, Bad as BadUsers}
 use Rattle.rule.specs.declared.Topic.{Topic}
-use Rattle.rule.specs.declared.Topic.TheVariants.{Filter, Template, Eq, EqTemplate, Bad as BadTopic}
-use Rattle.rule.specs.declared.Topics.{Topics}
-use Rattle.rule.specs.declared.Topics.TheVariants.{All as AllTopics, Listed}
+use Rattle.rule.specs.declared.Topic.TheVariants.{Filter, Template, Eq, EqTemplate}
 use Rattle.rule.specs.declared.Rule.{Rule}
 use Rattle.rule.specs.declared.Refusal.{Refusal}
-use Rattle.rule.specs.declared.Refusal.TheVariants.{TooLong, NotARule}
-use Rattle.rule.specs.declared.RuleRead.{RuleRead}
-use Rattle.rule.specs.declared.RuleRead.TheVariants.{Rule as RuleIs, Refused}
+use Rattle.rule.specs.declared.Refusal.TheVariants.{TooLong}
 use Rattle.rule.specs.declared.Parts.{Parts}
-use Rattle.rule.specs.declared.TextRead.{TextRead}
-use Rattle.rule.specs.declared.TextRead.TheVariants.{Fine, Faulty}
-use Rattle.rule.specs.declared.RulesCounted.{RulesCounted}
-use Rattle.rule.specs.declared.RulesCounted.TheVariants.{Rules, Faulty as RulesFaulty}
-use Rattle.rule.specs.declared.Given.{Given}
-use Rattle.rule.specs.declared.Given.TheVariants.{Absent, Length}
-use Rattle.rule.specs.declared.Filling.{Filling}
-use Rattle.rule.specs.declared.Filling.TheVariants.{Length as FilledTo, TooLong as FilledOver}
-
--- an optional lent text: "an enum with its length, beside the slice"; a length past its end means the whole slice
-unfoldable pub given : Given → List ℕ → Option (List ℕ)
-given Absent lent = none
-given (Length n) lent = some (take n lent)
 
 -- the value at a place of the line
 unfoldable pub value_of : List ℕ → ℕ → Option Value
-value_of line at = bind (value_at depth_limit line at) (λ r. some (record { at = at; value = r.value }))
-
-unfoldable pub located : List ℕ → Place → Option Value
-located line Nowhere = none
-located line (At p) = value_of line p
+value_of line at = bind (value_at depth_limit line at) (λ r. Some (record { at = at; value = r.value }))
 
 -- the place of a value, and of a text
-unfoldable pub place_of : Option Value → Place
-place_of none = Nowhere
-place_of (some v) = At v.at
+unfoldable pub place_of : Option Value → Option ℕ
+place_of o = option_map (λ v. v.at) o
 
-unfoldable pub text_place : Option Located → Place
-text_place none = Nowhere
-text_place (some t) = At t.at
+unfoldable pub text_place : Option Located → Option ℕ
+text_place o = option_map (λ t. t.at) o
 
 -- a word
-unfoldable pub word_of : List ℕ → Word
+unfoldable pub word_of : List ℕ → Option Word
 word_of t =
-    cond (is_word (ascii "allow") t) Allow
-    (cond (is_word (ascii "deny") t) Deny
-    (cond (is_word (ascii "all") t) WordAll
-    (cond (is_word (ascii "connect") t) WordConnect
-    (cond (is_word (ascii "publish") t) WordPublish
-    (cond (is_word (ascii "subscribe") t) WordSubscribe (cond (is_word (ascii "pubsub") t) WordPubsub Other))))))
+    cond (is_word (ascii "allow") t) (Some Allow)
+    (cond (is_word (ascii "deny") t) (Some Deny)
+    (cond (is_word (ascii "all") t) (Some WordAll)
+    (cond (is_word (ascii "connect") t) (Some WordConnect)
+    (cond (is_word (ascii "publish") t) (Some WordPublish)
+    (cond (is_word (ascii "subscribe") t) (Some WordSubscribe) (cond (is_word (ascii "pubsub") t) (Some WordPubsub) None))))))
 
-unfoldable pub word_at : List ℕ → ℕ → Word
-word_at line at = elim (string_at line at) [ none ↦ Other | some d ↦ word_of d.text ]
+unfoldable pub word_at : List ℕ → ℕ → Option Word
+word_at line at = option_and_then (λ d. word_of d.text) (string_at line at)
+
+-- the access and the control that a word is
+unfoldable pub access_of_word : Word → Option Bool
+access_of_word Allow = Some true
+access_of_word Deny = Some false
+access_of_word WordAll = None
+access_of_word WordConnect = None
+access_of_word WordPublish = None
+access_of_word WordSubscribe = None
+access_of_word WordPubsub = None
+
+unfoldable pub control_of_word : Word → Option Control
+control_of_word Allow = None
+control_of_word Deny = None
+control_of_word WordAll = Some All
+control_of_word WordConnect = Some Connect
+control_of_word WordPublish = Some Publish
+control_of_word WordSubscribe = Some Subscribe
+control_of_word WordPubsub = Some Pubsub
 
 -- the last member with a name of the object at a place
 unfoldable pub member_of : List ℕ → ℕ → List ℕ → Option Value
@@ -115,81 +93,46 @@ object_of line at = bind (value_of line at) as_object
 
 -- where no object stands, no name is listed
 unfoldable pub user_here : Bool → List ℕ → ℕ → Option (Option spec.User)
-user_here allow line at = elim (object_of line at) [ none ↦ some none | some ms ↦ spec.user_of allow ms ]
+user_here allow line at = elim (object_of line at) [ None ↦ Some None | Some ms ↦ spec.user_of allow ms ]
 
 -- where another value stands, nobody is listed
 unfoldable pub listed_in : Bool → Option Members → Option spec.Users
-listed_in allow none = some spec.everyone
-listed_in allow (some ms) = spec.users_in allow ms
+listed_in allow None = Some spec.everyone
+listed_in allow (Some ms) = spec.users_in allow ms
 
 unfoldable pub users_here : Bool → List ℕ → ℕ → Option spec.Users
 users_here allow line at = bind (value_of line at) (λ v. listed_in allow (as_object v))
 
--- a number and a bool that may be absent
-unfoldable pub found_number : Option ℕ → Found
-found_number none = NotFound
-found_number (some n) = FoundIs n
-
-unfoldable pub found_bool : Option Bool → Truth
-found_bool none = Unknown
-found_bool (some b) = Holds b
-
 -- the listed users, by their places
-unfoldable pub placed_user : Option spec.User → User
-placed_user none = Anyone
-placed_user (some u) = Named u.name.at (text_place u.password) u.superuser
-
-unfoldable pub placed_protocol : Option ℕ → Protocol
-placed_protocol none = Any
-placed_protocol (some n) = ProtocolIs n
-
-unfoldable pub protocol_here : List ℕ → ℕ → Protocol
-protocol_here line at = placed_protocol (Option.map (λ n. n % 256) (bind (member_of line at (ascii "protocol")) as_number))
+unfoldable pub placed_user : spec.User → User
+placed_user u = record { name = u.name.at; password = text_place u.password; superuser = u.superuser }
 
 unfoldable pub placed_users : spec.Users → Users
 placed_users u =
-    record { user = placed_user u.user; clientid = text_place u.clientid; ipaddr = text_place u.ipaddr; protocol = placed_protocol u.protocol }
+    record { user = option_map placed_user u.user; clientid = text_place u.clientid; ipaddr = text_place u.ipaddr; protocol = u.protocol }
 
-unfoldable pub user_answer : Option (Option spec.User) → UserRead
-user_answer none = BadUser
-user_answer (some u) = UserIs (placed_user u)
-
-unfoldable pub password_answer : Option (Option Located) → PasswordRead
-password_answer none = BadPassword
-password_answer (some p) = Password (text_place p)
-
-unfoldable pub users_answer : Option spec.Users → UsersRead
-users_answer none = BadUsers
-users_answer (some u) = UsersAre (placed_users u)
-
-unfoldable pub control_answer : Option Control → ControlRead
-control_answer none = BadControl
-control_answer (some c) = ControlIs c
+-- "`protocol` (number modulo 256)" of the object at a place
+unfoldable pub protocol_here : List ℕ → ℕ → Option ℕ
+protocol_here line at = option_map (λ n. n % 256) (bind (member_of line at (ascii "protocol")) as_number)
 
 -- a topic, by its place; a text over the limit is none here, since no rule that was read has one
-unfoldable pub placed_topic : spec.Topic → Topic
+unfoldable pub placed_topic : spec.Topic → Option Topic
 placed_topic t =
-    cond (ltb text_limit (length t.text.text)) BadTopic
+    cond (ltb text_limit (length t.text.text)) None
     (cond t.eq
-    (cond (is_template t.text.text) (EqTemplate t.text.at) (Eq t.text.at))
-    (cond (is_template t.text.text) (Template t.text.at) (Filter t.text.at)))
+    (cond (is_template t.text.text) (Some (EqTemplate t.text.at)) (Some (Eq t.text.at)))
+    (cond (is_template t.text.text) (Some (Template t.text.at)) (Some (Filter t.text.at))))
 
-unfoldable pub topic_answer : Option spec.Topic → Topic
-topic_answer none = BadTopic
-topic_answer (some t) = placed_topic t
-
--- the topics' array, by its place
-unfoldable pub topics_place : Option Value → Topics
-topics_place none = AllTopics
-topics_place (some v) = Listed v.at
+unfoldable pub topic_answer : Option spec.Topic → Option Topic
+topic_answer o = option_and_then placed_topic o
 
 -- the elements of the line's array
 unfoldable pub elements_of : Json → Option Elements
 elements_of v = spec.as_array (record { at = 0; value = v })
 
 unfoldable pub parts_of : Option Elements → Parts
-parts_of none = record { access = Nowhere; users = Nowhere; control = Nowhere; topics = Nowhere }
-parts_of (some es) =
+parts_of None = record { access = None; users = None; control = None; topics = None }
+parts_of (Some es) =
     record { access = place_of (nth 0 es); users = place_of (nth 1 es); control = place_of (nth 2 es); topics = place_of (nth 3 es) }
 
 -- a rule, by its places
@@ -199,154 +142,124 @@ placed_rule topics r =
       allow = r.allow;
       users = placed_users (record { user = r.user; clientid = r.clientid; ipaddr = r.ipaddr; protocol = r.protocol });
       control = r.control;
-      topics = topics_place topics;
+      topics = place_of topics;
     }
 
 unfoldable pub fourth_of : Option Json → Option Value
-fourth_of none = none
-fourth_of (some v) = bind (elements_of v) (nth 3)
+fourth_of None = None
+fourth_of (Some v) = bind (elements_of v) (nth 3)
 
-unfoldable pub rule_answer : Option Value → Result spec.Rule → RuleRead
-rule_answer topics (refused cause) = Refused cause
-rule_answer topics (gives r) = RuleIs (placed_rule topics r)
+unfoldable pub rule_answer : Option Value → Result spec.Rule Refusal → Result Rule Refusal
+rule_answer topics (Err cause) = Err cause
+rule_answer topics (Ok r) = Ok (placed_rule topics r)
 
-unfoldable pub text_answer : Option Fault → TextRead
-text_answer none = Fine
-text_answer (some f) = Faulty f.cause f.line
+-- the answer for a text without a fault, or its fault
+unfoldable pub rules_answer : {A : Type 0} → A → Option Fault → Result A Fault
+rules_answer a None = Ok a
+rules_answer a (Some f) = Err f
 
--- the number of a text's rules, or its fault
-unfoldable pub rules_answer : ℕ → Option Fault → RulesCounted
-rules_answer n none = Rules n
-rules_answer n (some f) = RulesFaulty f.cause f.line
+unfoldable pub text_answer : Option Fault → Result ⊤ Fault
+text_answer f = rules_answer tt f
 
 -- a faulty line of a text with so many lines: "over 256 lines (line 257). Then the first faulty line"
-unfoldable pub faulty_line : ℕ → Refusal → ℕ → RulesCounted
-faulty_line lines cause line = cond (ltb lines_limit lines) (RulesFaulty TooLong (suc lines_limit)) (RulesFaulty cause line)
+unfoldable pub faulty_line : ℕ → Refusal → ℕ → Fault
+faulty_line lines cause line = cond (ltb lines_limit lines) over_lines (record { cause = cause; line = line })
 
 -- filling: the template of a rule has at most 256 bytes and a client id at most 64; where one is longer, the answer is 'too long'
 unfoldable pub fillable : List ℕ → List ℕ → Bool
 fillable template id = leb (length template) text_limit && leb (length id) id_limit
 
--- what a filled text answers for a buffer of `room` bytes
-unfoldable pub filling_of : ℕ → List ℕ → Filling
-filling_of room t = cond (leb (length t) room) (FilledTo (length t)) FilledOver
-
-unfoldable pub filling : ℕ → List ℕ → List ℕ → Option (List ℕ) → Filling
+-- what is answered for a buffer of `room` bytes, and the buffer afterwards
+unfoldable pub filling : ℕ → List ℕ → List ℕ → Option (List ℕ) → Option ℕ
 filling room template id name =
-    let t = fill template id name in cond (fillable template id && leb (length t) room) (FilledTo (length t)) FilledOver
+    let t = fill template id name in cond (fillable template id && leb (length t) room) (Some (length t)) None
 
 unfoldable pub filled_into : List ℕ → List ℕ → List ℕ → Option (List ℕ) → List ℕ
 filled_into buffer template id name = cond (fillable template id) (written (fill template id name) buffer) buffer
 
-unfoldable pub filling_at : ℕ → Option Decoded → List ℕ → Option (List ℕ) → Filling
-filling_at room none id name = FilledOver
-filling_at room (some d) id name = filling room d.text id name
+-- the two passes through a text of at most `most` bytes between them: nothing, where that text is longer
+unfoldable pub passes : ℕ → List ℕ → List ℕ → Bool
+passes most template id = leb (length (replace (ascii "%c") id template)) most
+
+unfoldable pub through : ℕ → ℕ → List ℕ → List ℕ → Option (List ℕ) → Option (Option ℕ)
+through most room template id name = cond (passes most template id) (Some (fitted (fill template id name) room)) None
+
+unfoldable pub through_into : ℕ → List ℕ → List ℕ → List ℕ → Option (List ℕ) → List ℕ
+through_into most buffer template id name = cond (passes most template id) (written (fill template id name) buffer) buffer
+
+-- the same for the string at a place
+unfoldable pub filling_at : ℕ → Option Decoded → List ℕ → Option (List ℕ) → Option ℕ
+filling_at room o id name = option_and_then (λ d. filling room d.text id name) o
 
 unfoldable pub filled_at : List ℕ → Option Decoded → List ℕ → Option (List ℕ) → List ℕ
-filled_at buffer none id name = buffer
-filled_at buffer (some d) id name = filled_into buffer d.text id name
+filled_at buffer None id name = buffer
+filled_at buffer (Some d) id name = filled_into buffer d.text id name
 
--- the topic that the string at a place is by itself, and under `eq`
-unfoldable pub string_topic : List ℕ → ℕ → Topic
-string_topic line at =
-    elim (string_at line at) [
-      | none ↦ BadTopic
-      | some d ↦
-          cond (is_template d.text || valid_filter d.text) (placed_topic (record { eq = false; text = record { at = at; text = d.text } })) BadTopic
-    ]
+-- the topic that a text is, by itself or under `eq`, and the string at a place
+unfoldable pub text_topic : Bool → ℕ → List ℕ → Option Topic
+text_topic eq at t =
+    cond (eq || (is_template t || valid_filter t)) (placed_topic (record { eq = eq; text = record { at = at; text = t } })) None
 
-unfoldable pub eq_topic : List ℕ → ℕ → Topic
-eq_topic line at = elim (string_at line at) [ none ↦ BadTopic | some d ↦ placed_topic (record { eq = true; text = record { at = at; text = d.text } }) ]
-
-unfoldable pub is_topic : Topic → Bool
-is_topic (Filter at) = true
-is_topic (Template at) = true
-is_topic (Eq at) = true
-is_topic (EqTemplate at) = true
-is_topic BadTopic = false
+unfoldable pub string_topic : Bool → List ℕ → ℕ → Option Topic
+string_topic eq line at = option_and_then (λ d. text_topic eq at d.text) (string_at line at)
 
 -- is each element from a place on a topic, of `most` at the most?
-unfoldable pub topics_from : ℕ → List ℕ → Place → Bool
+unfoldable pub topics_from : ℕ → List ℕ → Option ℕ → Bool
 topics_from zero line place = true
-topics_from (suc most) line Nowhere = true
-topics_from (suc most) line (At p) = is_topic (topic_answer (bind (value_of line p) spec.topic_of)) && topics_from most line (next_item line p)
+topics_from (suc most) line None = true
+topics_from (suc most) line (Some p) = is_some (topic_answer (bind (value_of line p) spec.topic_of)) && topics_from most line (next_item line p)
 
-unfoldable pub are_topics : List ℕ → Place → Bool
+unfoldable pub are_topics : List ℕ → Option ℕ → Bool
 are_topics line place = topics_from (length line) line place
 
 unfoldable pub topics_here : List ℕ → ℕ → Bool
 topics_here line at = is_at line at 0x5b && are_topics line (first_item 0x5b 0x5d line at)
 
 -- the elements of the line's array, by their places
-unfoldable pub next_part : List ℕ → Place → Place
-next_part line Nowhere = Nowhere
-next_part line (At p) = next_item line p
-
 unfoldable pub parts_here : List ℕ → Parts
 parts_here line =
     let access = first_item 0x5b 0x5d line (skip_blanks line 0) in
-    let users = next_part line access in
-    let control = next_part line users in
-    record { access = access; users = users; control = control; topics = next_part line control }
+    let users = option_and_then (next_item line) access in
+    let control = option_and_then (next_item line) users in
+    record { access = access; users = users; control = control; topics = option_and_then (next_item line) control }
 
-unfoldable pub over_topics : Found → Bool
-over_topics NotFound = false
-over_topics (FoundIs n) = ltb topics_limit n
+unfoldable pub over_topics : Option ℕ → Bool
+over_topics None = false
+over_topics (Some n) = ltb topics_limit n
 
-unfoldable pub too_many : List ℕ → Place → Bool
-too_many line Nowhere = false
-too_many line (At p) = over_topics (element_count line p)
+unfoldable pub too_many : List ℕ → Option ℕ → Bool
+too_many line None = false
+too_many line (Some p) = over_topics (element_count line p)
 
--- the control that a word is
-unfoldable pub control_of_word : Word → ControlRead
-control_of_word Allow = BadControl
-control_of_word Deny = BadControl
-control_of_word WordAll = ControlIs All
-control_of_word WordConnect = ControlIs Connect
-control_of_word WordPublish = ControlIs Publish
-control_of_word WordSubscribe = ControlIs Subscribe
-control_of_word WordPubsub = ControlIs Pubsub
-control_of_word Other = BadControl
+-- what the parts are by their places: the access, the users, the control; "Control: absent, `all`"
+unfoldable pub access_here : List ℕ → ℕ → Option Bool
+access_here line at = option_and_then access_of_word (word_at line at)
 
-unfoldable pub control_here : List ℕ → Place → ControlRead
-control_here line Nowhere = ControlIs All
-control_here line (At p) = control_of_word (word_at line p)
+unfoldable pub users_of_place : List ℕ → Bool → Option ℕ → Option Users
+users_of_place line allow o = option_and_then (λ p. option_map placed_users (bind (value_of line p) (spec.users_of allow))) o
 
--- a rule, from its parts' places
-unfoldable pub users_of_place : List ℕ → Bool → Place → UsersRead
-users_of_place line allow Nowhere = BadUsers
-users_of_place line allow (At p) = users_answer (bind (value_of line p) (spec.users_of allow))
+unfoldable pub control_here : List ℕ → Option ℕ → Option Control
+control_here line None = Some All
+control_here line (Some p) = option_and_then control_of_word (word_at line p)
 
-unfoldable pub with_topics : List ℕ → Bool → Users → Control → Place → RuleRead
-with_topics line allow users control Nowhere = RuleIs (record { allow = allow; users = users; control = control; topics = AllTopics })
-with_topics line allow users control (At t) =
-    cond (topics_here line t) (RuleIs (record { allow = allow; users = users; control = control; topics = Listed t })) (Refused NotARule)
+-- a rule, from its last part to its first
+unfoldable pub with_topics : List ℕ → Bool → Users → Control → Option ℕ → Option Rule
+with_topics line allow users control None = Some (record { allow = allow; users = users; control = control; topics = None })
+with_topics line allow users control (Some t) =
+    cond (topics_here line t) (Some (record { allow = allow; users = users; control = control; topics = Some t })) None
 
-unfoldable pub with_control : List ℕ → Bool → Users → ControlRead → Place → RuleRead
-with_control line allow users BadControl topics = Refused NotARule
-with_control line allow users (ControlIs control) topics = with_topics line allow users control topics
+unfoldable pub with_control : List ℕ → Bool → Users → Option Control → Option ℕ → Option Rule
+with_control line allow users control topics = option_and_then (λ c. with_topics line allow users c topics) control
 
-unfoldable pub with_users : List ℕ → Bool → UsersRead → Place → Place → RuleRead
-with_users line allow BadUsers control topics = Refused NotARule
-with_users line allow (UsersAre users) control topics = with_control line allow users (control_here line control) topics
+unfoldable pub with_users : List ℕ → Bool → Option Users → Option ℕ → Option ℕ → Option Rule
+with_users line allow users control topics = option_and_then (λ u. with_control line allow u (control_here line control) topics) users
 
-unfoldable pub rule_behind : List ℕ → Parts → Bool → RuleRead
+unfoldable pub rule_behind : List ℕ → Parts → Bool → Option Rule
 rule_behind line parts allow = with_users line allow (users_of_place line allow parts.users) parts.control parts.topics
 
-unfoldable pub with_access : List ℕ → Parts → Word → RuleRead
-with_access line parts Allow = rule_behind line parts true
-with_access line parts Deny = rule_behind line parts false
-with_access line parts WordAll = Refused NotARule
-with_access line parts WordConnect = Refused NotARule
-with_access line parts WordPublish = Refused NotARule
-with_access line parts WordSubscribe = Refused NotARule
-with_access line parts WordPubsub = Refused NotARule
-with_access line parts Other = Refused NotARule
+unfoldable pub with_access : List ℕ → Parts → Option ℕ → Option Rule
+with_access line parts access = option_and_then (rule_behind line parts) (option_and_then (access_here line) access)
 
-unfoldable pub access_at : List ℕ → Parts → Place → RuleRead
-access_at line parts Nowhere = Refused NotARule
-access_at line parts (At p) = with_access line parts (word_at line p)
-
-unfoldable pub rule_here : List ℕ → RuleRead
+unfoldable pub rule_here : List ℕ → Result Rule Refusal
 rule_here line =
-    let parts = parts_here line in cond (too_many line parts.topics) (Refused TooLong) (access_at line parts parts.access)
+    let parts = parts_here line in cond (too_many line parts.topics) (Err TooLong) (or_not_a_rule (with_access line parts parts.access))

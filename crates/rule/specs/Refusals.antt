@@ -1,6 +1,5 @@
 -- The numbers of document 01, Refusals by operation.
-use Rattle.std.specs.Prelude.{ℕ, Bool, cond, List, [], ◌∷◌}
-use Rattle.std.proofs.Math.Option.{Option, none, some}
+use Rattle.std.specs.Prelude.{ℕ, Bool, cond, List, [], ◌∷◌, Option, None, Some}
 use Rattle.rule.specs.declared.Refusal.{Refusal}
 use Rattle.rule.specs.declared.Refusal.TheVariants.{TooLong, OutOfRange, Malformed, Counts, NotJson, NotARule, FilledTooLong, FiltersFull, EqsFull, NotesFull}
 
@@ -20,5 +19,5 @@ number NotesFull = 10
 
 -- "The first cause in the order listed gives the number": the causes that an operation tests, each with its number
 unfoldable pub first : List (Bool × ℕ) → Option ℕ
-first [] = none
-first (c ∷ causes) = cond c.0 (some c.1) (first causes)
+first [] = None
+first (c ∷ causes) = cond c.0 (Some c.1) (first causes)

@@ -1,7 +1,6 @@
 -- A plugin rule, read from the value of a line: document 01, Plugin rule; `Rule::try_from` of config.rs.
-use Rattle.std.specs.Prelude.{ℕ, zero, suc, ◌+◌, ◌%◌, Bool, true, false, ◌||◌, cond, List, [], ◌∷◌, map}
-use Rattle.std.proofs.Math.Option
-use Rattle.std.proofs.Math.Option.{Option, none, some, bind}
+use Rattle.std.specs.Prelude.{ℕ, zero, suc, ◌+◌, ◌%◌, Bool, true, false, ◌||◌, cond, List, [], ◌∷◌, map, Option, None, Some, option_map, unwrap_or}
+use Rattle.text.specs.Maybe.{bind}
 use Rattle.text.specs.Ascii.{ascii}
 use Rattle.text.specs.Text.{same, contains}
 use Rattle.topic.specs.Topic.{valid_filter}
@@ -58,7 +57,7 @@ Meaning = RuleOf (List ℕ)
 
 -- a rule's meaning forgets the places, so equal rules are equal values
 unfoldable pub user_means : User → UserOf (List ℕ)
-user_means u = record { name = u.name.text; password = Option.map (λ p. p.text) u.password; superuser = u.superuser }
+user_means u = record { name = u.name.text; password = option_map (λ p. p.text) u.password; superuser = u.superuser }
 
 unfoldable pub topic_means : Topic → TopicOf (List ℕ)
 topic_means t = record { eq = t.eq; text = t.text.text }
@@ -67,12 +66,12 @@ unfoldable pub means : Rule → Meaning
 means r =
     record {
       allow = r.allow;
-      user = Option.map user_means r.user;
-      clientid = Option.map (λ t. t.text) r.clientid;
-      ipaddr = Option.map (λ t. t.text) r.ipaddr;
+      user = option_map user_means r.user;
+      clientid = option_map (λ t. t.text) r.clientid;
+      ipaddr = option_map (λ t. t.text) r.ipaddr;
       protocol = r.protocol;
       control = r.control;
-      topics = Option.map (map topic_means) r.topics;
+      topics = option_map (map topic_means) r.topics;
     }
 
 -- "Words ignore ASCII case"
@@ -84,46 +83,46 @@ is_word word t = same (map lower t) word
 
 -- the n-th element of an array, from 0
 unfoldable pub nth : ℕ → Elements → Option Value
-nth n no_element = none
-nth zero (element at value rest) = some (record { at = at; value = value })
+nth n no_element = None
+nth zero (element at value rest) = Some (record { at = at; value = value })
 nth (suc n) (element at value rest) = nth n rest
 
 -- the value of the last member with a name
 unfoldable pub named : List ℕ → Members → Option Value → Option Value
 named name no_member found = found
 named name (member at n value_start value rest) found =
-    named name rest (cond (same n name) (some (record { at = value_start; value = value })) found)
+    named name rest (cond (same n name) (Some (record { at = value_start; value = value })) found)
 
 -- "members of another type are ignored"
 unfoldable pub as_text : Value → Option Located
 as_text v =
     elim v.value [
-      | null ↦ none
-      | bool b ↦ none
-      | number n ↦ none
-      | text t ↦ some (record { at = v.at; text = t })
-      | array es ↦ none
-      | object ms ↦ none
+      | null ↦ None
+      | bool b ↦ None
+      | number n ↦ None
+      | text t ↦ Some (record { at = v.at; text = t })
+      | array es ↦ None
+      | object ms ↦ None
     ]
 
 unfoldable pub as_number : Value → Option ℕ
-as_number v = elim v.value [ null ↦ none | bool b ↦ none | number n ↦ some n | text t ↦ none | array es ↦ none | object ms ↦ none ]
+as_number v = elim v.value [ null ↦ None | bool b ↦ None | number n ↦ Some n | text t ↦ None | array es ↦ None | object ms ↦ None ]
 
 unfoldable pub as_bool : Value → Option Bool
-as_bool v = elim v.value [ null ↦ none | bool b ↦ some b | number n ↦ none | text t ↦ none | array es ↦ none | object ms ↦ none ]
+as_bool v = elim v.value [ null ↦ None | bool b ↦ Some b | number n ↦ None | text t ↦ None | array es ↦ None | object ms ↦ None ]
 
 unfoldable pub as_array : Value → Option Elements
-as_array v = elim v.value [ null ↦ none | bool b ↦ none | number n ↦ none | text t ↦ none | array es ↦ some es | object ms ↦ none ]
+as_array v = elim v.value [ null ↦ None | bool b ↦ None | number n ↦ None | text t ↦ None | array es ↦ Some es | object ms ↦ None ]
 
 unfoldable pub as_object : Value → Option Members
-as_object v = elim v.value [ null ↦ none | bool b ↦ none | number n ↦ none | text t ↦ none | array es ↦ none | object ms ↦ some ms ]
+as_object v = elim v.value [ null ↦ None | bool b ↦ None | number n ↦ None | text t ↦ None | array es ↦ None | object ms ↦ Some ms ]
 
 unfoldable pub value_named : List ℕ → Members → Option Value
-value_named name ms = named name ms none
+value_named name ms = named name ms None
 
 -- "Access: `allow`, `deny`"
 unfoldable pub access_of : Value → Option Bool
-access_of v = bind (as_text v) (λ t. cond (is_word (ascii "allow") t.text) (some true) (cond (is_word (ascii "deny") t.text) (some false) none))
+access_of v = bind (as_text v) (λ t. cond (is_word (ascii "allow") t.text) (Some true) (cond (is_word (ascii "deny") t.text) (Some false) None))
 
 -- the listed users
 pub record Users : Type 0 where
@@ -134,64 +133,63 @@ pub record Users : Type 0 where
 
 -- "`superuser` counts if boolean, else false"
 unfoldable pub flag : Option Bool → Bool
-flag none = false
-flag (some b) = b
+flag o = unwrap_or o false
 
 -- "`password` must be absent or a string": given as absent, a string, or another value
 unfoldable pub password_of : Option Value → Option (Option Located)
-password_of none = some none
-password_of (some v) = Option.map some (as_text v)
+password_of None = Some None
+password_of (Some v) = option_map Some (as_text v)
 
 -- "With a string `user` under allow, `password` must be absent or a string; `superuser` counts if boolean, else false. Under deny both
 -- are ignored"
 unfoldable pub user_of : Bool → Members → Option (Option User)
 user_of allow ms =
     elim (bind (value_named (ascii "user") ms) as_text) [
-      | none ↦ some none
-      | some name ↦
+      | None ↦ Some None
+      | Some name ↦
           cond allow
-          (Option.map
-          (λ password. some (record { name = name; password = password; superuser = flag (bind (value_named (ascii "superuser") ms) as_bool) }))
+          (option_map
+          (λ password. Some (record { name = name; password = password; superuser = flag (bind (value_named (ascii "superuser") ms) as_bool) }))
           (password_of (value_named (ascii "password") ms)))
-          (some (some (record { name = name; password = none; superuser = false })))
+          (Some (Some (record { name = name; password = None; superuser = false })))
     ]
 
 -- "`protocol` (number modulo 256)"
 unfoldable pub users_in : Bool → Members → Option Users
 users_in allow ms =
-    Option.map
+    option_map
     (λ user.
     record {
       user = user;
       clientid = bind (value_named (ascii "clientid") ms) as_text;
       ipaddr = bind (value_named (ascii "ipaddr") ms) as_text;
-      protocol = Option.map (λ n. n % 256) (bind (value_named (ascii "protocol") ms) as_number);
+      protocol = option_map (λ n. n % 256) (bind (value_named (ascii "protocol") ms) as_number);
     })
     (user_of allow ms)
 
 -- no users
 abbrev pub everyone : Users
-everyone = record { user = none; clientid = none; ipaddr = none; protocol = none }
+everyone = record { user = None; clientid = None; ipaddr = None; protocol = None }
 
 -- "Users: `all`, or an object"
 unfoldable pub users_of : Bool → Value → Option Users
 users_of allow v =
     elim (as_object v) [
-      | some ms ↦ users_in allow ms
-      | none ↦ bind (as_text v) (λ t. cond (is_word (ascii "all") t.text) (some everyone) none)
+      | Some ms ↦ users_in allow ms
+      | None ↦ bind (as_text v) (λ t. cond (is_word (ascii "all") t.text) (Some everyone) None)
     ]
 
 -- "Control: absent, `all`, `connect`, `publish`, `subscribe`, `pubsub`"
 unfoldable pub control_word : List ℕ → Option Control
 control_word t =
-    cond (is_word (ascii "all") t) (some All)
-    (cond (is_word (ascii "connect") t) (some Connect)
-    (cond (is_word (ascii "publish") t) (some Publish)
-    (cond (is_word (ascii "subscribe") t) (some Subscribe) (cond (is_word (ascii "pubsub") t) (some Pubsub) none))))
+    cond (is_word (ascii "all") t) (Some All)
+    (cond (is_word (ascii "connect") t) (Some Connect)
+    (cond (is_word (ascii "publish") t) (Some Publish)
+    (cond (is_word (ascii "subscribe") t) (Some Subscribe) (cond (is_word (ascii "pubsub") t) (Some Pubsub) None))))
 
 unfoldable pub control_of : Option Value → Option Control
-control_of none = some All
-control_of (some v) = bind (as_text v) (λ t. control_word t.text)
+control_of None = Some All
+control_of (Some v) = bind (as_text v) (λ t. control_word t.text)
 
 -- "A text with `%u` or `%c` is a template"
 unfoldable pub is_template : List ℕ → Bool
@@ -201,20 +199,20 @@ is_template t = contains (ascii "%u") t || contains (ascii "%c") t
 unfoldable pub topic_of : Value → Option Topic
 topic_of v =
     elim (as_object v) [
-      | some ms ↦ Option.map (λ t. record { eq = true; text = t }) (bind (value_named (ascii "eq") ms) as_text)
-      | none ↦
+      | Some ms ↦ option_map (λ t. record { eq = true; text = t }) (bind (value_named (ascii "eq") ms) as_text)
+      | None ↦
           bind (as_text v)
-          (λ t. cond (is_template t.text || valid_filter t.text) (some (record { eq = false; text = t })) none)
+          (λ t. cond (is_template t.text || valid_filter t.text) (Some (record { eq = false; text = t })) None)
     ]
 
 unfoldable pub topics_in : Elements → Option (List Topic)
-topics_in no_element = some []
-topics_in (element at value rest) = bind (topic_of (record { at = at; value = value })) (λ t. Option.map (λ ts. t ∷ ts) (topics_in rest))
+topics_in no_element = Some []
+topics_in (element at value rest) = bind (topic_of (record { at = at; value = value })) (λ t. option_map (λ ts. t ∷ ts) (topics_in rest))
 
 -- "Topics: absent means all"
 unfoldable pub topics_of : Option Value → Option (Option (List Topic))
-topics_of none = some none
-topics_of (some v) = bind (as_array v) (λ es. Option.map some (topics_in es))
+topics_of None = Some None
+topics_of (Some v) = bind (as_array v) (λ es. option_map Some (topics_in es))
 
 -- "An array: access, users, control, topics; more elements are ignored"
 unfoldable pub rule_in : Elements → Option Rule
@@ -225,7 +223,7 @@ rule_in es =
     (λ users.
     bind (control_of (nth 2 es))
     (λ control.
-    Option.map
+    option_map
     (λ topics.
     record {
       allow = allow;
@@ -240,4 +238,4 @@ rule_in es =
 
 unfoldable pub rule_of : Json → Option Rule
 rule_of v =
-    elim v [ null ↦ none | bool b ↦ none | number n ↦ none | text t ↦ none | array es ↦ rule_in es | object ms ↦ none ]
+    elim v [ null ↦ None | bool b ↦ None | number n ↦ None | text t ↦ None | array es ↦ rule_in es | object ms ↦ None ]

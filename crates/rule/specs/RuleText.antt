@@ -1,8 +1,8 @@
 -- A whole rule text: its lines as rules, the first faulty line, and its templates filled for a client; document 01, Refusals by operation
 -- (Open) and Events.
-use Rattle.std.specs.Prelude.{ℕ, suc, Bool, false, ◌||◌, cond, List, [], ◌∷◌, ◌++◌, map, ltb, length}
+use Rattle.std.specs.Prelude.{ℕ, suc, Bool, false, ◌||◌, cond, List, [], ◌∷◌, ◌++◌, map, ltb, length, Option, None, Some, ok_or, Result, Ok, Err}
 use Rattle.std.specs.Bool.{beq}
-use Rattle.std.proofs.Math.Option.{Option, none, some, bind}
+use Rattle.text.specs.Maybe.{bind}
 use Rattle.json_text.specs.Lines.{lines}
 use Rattle.json_text.specs.Json.{Json, null, bool, number, text, array, object, Elements, line_value, longest}
 use Rattle.json_text.specs.Access.{count}
@@ -11,16 +11,12 @@ use Rattle.rule.specs.Rule.{Rule, Meaning, TopicOf, means, nth, as_array, rule_o
 use Rattle.rule.specs.Fill.{fill}
 use Rattle.rule.specs.declared.Refusal.{Refusal}
 use Rattle.rule.specs.declared.Refusal.TheVariants.{TooLong, NotJson, NotARule}
-
--- what reading gives: a refusal, or what was read
-pub data Result (A : Type 0) : Type 0 where
-  refused : Refusal → Result A
-  gives : A → Result A
+pub use Rattle.rule.specs.declared.Fault.{Fault}
 
 -- "a fourth element that is an array of over 64"
 unfoldable pub fourth_over : Option Elements → Bool
-fourth_over none = false
-fourth_over (some es) = ltb topics_limit (count es)
+fourth_over None = false
+fourth_over (Some es) = ltb topics_limit (count es)
 
 unfoldable pub topics_over : Json → Bool
 topics_over v =
@@ -34,38 +30,34 @@ topics_over v =
     ]
 
 -- "6 not a rule"
-unfoldable pub or_not_a_rule : Option Rule → Result Rule
-or_not_a_rule none = refused NotARule
-or_not_a_rule (some r) = gives r
+unfoldable pub or_not_a_rule : {A : Type 0} → Option A → Result A Refusal
+or_not_a_rule o = ok_or o NotARule
 
 -- "5 not the JSON above; 1 any decoded string, member names included, over 256 bytes, or a fourth element that is an array of over 64; 6"
-unfoldable pub rule_from : Option Json → Result Rule
-rule_from none = refused NotJson
-rule_from (some v) = cond (ltb text_limit (longest v) || topics_over v) (refused TooLong) (or_not_a_rule (rule_of v))
+unfoldable pub rule_from : Option Json → Result Rule Refusal
+rule_from None = Err NotJson
+rule_from (Some v) = cond (ltb text_limit (longest v) || topics_over v) (Err TooLong) (or_not_a_rule (rule_of v))
 
 -- "1 over 2,048 bytes" comes first
-unfoldable pub read_rule : List ℕ → Result Rule
-read_rule line = cond (ltb line_limit (length line)) (refused TooLong) (rule_from (line_value line))
-
--- a refusal of a text, with its line: 0 for the whole, one more than the limit for too many lines, else the line's number from 1
-pub record Fault : Type 0 where
-  pub cause : Refusal
-  pub line : ℕ
+unfoldable pub read_rule : List ℕ → Result Rule Refusal
+read_rule line = cond (ltb line_limit (length line)) (Err TooLong) (rule_from (line_value line))
 
 -- "Then the first faulty line"
 unfoldable pub fault_in : ℕ → List (List ℕ) → Option Fault
-fault_in n [] = none
-fault_in n (line ∷ rest) = elim (read_rule line) [ refused cause ↦ some (record { cause = cause; line = n }) | gives r ↦ fault_in (suc n) rest ]
+fault_in n [] = None
+fault_in n (line ∷ rest) = elim (read_rule line) [ Err cause ↦ Some (record { cause = cause; line = n }) | Ok r ↦ fault_in (suc n) rest ]
 
 -- "1 .. then over 256 lines (line 257). Then the first faulty line"
+abbrev pub over_lines : Fault
+over_lines = record { cause = TooLong; line = suc lines_limit }
+
 unfoldable pub text_fault : List ℕ → Option Fault
-text_fault t =
-    cond (ltb lines_limit (length (lines t))) (some (record { cause = TooLong; line = suc lines_limit })) (fault_in 1 (lines t))
+text_fault t = cond (ltb lines_limit (length (lines t))) (Some over_lines) (fault_in 1 (lines t))
 
 -- the rules of a text: each line has one, or is refused
-unfoldable pub rule_on : Result Rule → Option Meaning
-rule_on (refused cause) = none
-rule_on (gives r) = some (means r)
+unfoldable pub rule_on : Result Rule Refusal → Option Meaning
+rule_on (Err cause) = None
+rule_on (Ok r) = Some (means r)
 
 unfoldable pub rules_of : List ℕ → List (Option Meaning)
 rules_of t = map (λ line. rule_on (read_rule line)) (lines t)
@@ -86,8 +78,8 @@ filled_topics n id name (t ∷ topics) =
 
 -- the topics that a rule lists
 unfoldable pub listed : Option Meaning → List (TopicOf (List ℕ))
-listed none = []
-listed (some r) = elim r.topics [ none ↦ [] | some topics ↦ topics ]
+listed None = []
+listed (Some r) = elim r.topics [ None ↦ [] | Some topics ↦ topics ]
 
 -- "in rule and template order", the rules counted from `n`
 unfoldable pub filled_rules : ℕ → List ℕ → Option (List ℕ) → List (Option Meaning) → List Filled

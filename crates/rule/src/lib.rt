@@ -13,8 +13,6 @@ pub mod words;
 ghost use Rattle.std.specs.Prelude.{◌≡◌};
 ghost use Rattle.rule.specs.Refusals.{number};
 
-use json_text::Place;
-
 // The limits of document 01: bytes of a line, of a decoded string and of a client id, topics of a rule, lines of a text.
 pub const LINE: usize = 2048;
 
@@ -27,7 +25,7 @@ pub const TOPICS: u64 = 64;
 pub const LINES: usize = 256;
 
 // Why a call is refused.
-#[derive(Clone, Copy)]
+#[derive(Clone, Copy, Debug, PartialEq, Eq)]
 pub enum Refusal {
     TooLong,
     OutOfRange,
@@ -42,6 +40,7 @@ pub enum Refusal {
 }
 
 // The number of document 01 for a refusal, as `number` of specs/Refusals.antt lists them.
+#[tactic(auto, unfolding(crate::specs::Refusals::number))]
 pub fn refusal_number(cause: Refusal) -> u8
     ensures { result ≡ number cause }
 {
@@ -59,7 +58,7 @@ pub fn refusal_number(cause: Refusal) -> u8
     }
 }
 
-#[derive(Clone, Copy)]
+#[derive(Clone, Copy, Debug, PartialEq, Eq)]
 pub enum Control {
     All,
     Connect,
@@ -69,7 +68,7 @@ pub enum Control {
 }
 
 // The words of a rule, in any case of their ASCII letters.
-#[derive(Clone, Copy)]
+#[derive(Clone, Copy, Debug, PartialEq, Eq)]
 pub enum Word {
     Allow,
     Deny,
@@ -78,172 +77,89 @@ pub enum Word {
     Publish,
     Subscribe,
     Pubsub,
-    Other,
-}
-
-// The name that a rule asks for, by the places of its strings in the line: the name's, the password's, and the flag.
-#[derive(Clone, Copy)]
-pub enum User {
-    Anyone,
-    Named(usize, Place, bool),
-}
-
-#[derive(Clone, Copy)]
-pub enum Protocol {
-    Any,
-    Is(u8),
 }
 
 // The listed users, by the places of their strings in the line.
-#[derive(Clone, Copy)]
+#[derive(Clone, Copy, Debug, PartialEq, Eq)]
 pub struct Users {
-    pub user: User,
-    pub clientid: Place,
-    pub ipaddr: Place,
-    pub protocol: Protocol,
+    pub user: Option<User>,
+    pub clientid: Option<usize>,
+    pub ipaddr: Option<usize>,
+    pub protocol: Option<u8>,
 }
+
+// Where a rule lists nobody, everyone is meant.
+pub const EVERYONE: Users = Users {
+    user: None,
+    clientid: None,
+    ipaddr: None,
+    protocol: None,
+};
 
 // The values of an object's members that say something of users, by their places.
-#[derive(Clone, Copy)]
+#[derive(Clone, Copy, Debug, Default, PartialEq, Eq)]
 pub struct MemberPlaces {
-    pub user: Place,
-    pub password: Place,
-    pub superuser: Place,
-    pub clientid: Place,
-    pub ipaddr: Place,
-    pub protocol: Place,
-}
-
-// The members of an object that was passed over, and the place behind it; or that it was not.
-#[derive(Clone, Copy)]
-pub enum MembersPassed {
-    Places(MemberPlaces, usize),
-    Unread,
-}
-
-// The users and the place behind them, of a value that was passed over; or that it was not.
-#[derive(Clone, Copy)]
-pub enum UsersPassed {
-    Users(Users, usize),
-    Unread,
-}
-
-// The access of a line and the place of its users; or that it was not read.
-#[derive(Clone, Copy)]
-pub enum AccessPassed {
-    Access(bool, usize),
-    Unread,
-}
-
-// The string of a topic under `eq`: its quotes' places, and the place behind the object; or that it was not read.
-#[derive(Clone, Copy)]
-pub enum EqPassed {
-    Text(usize, usize, usize),
-    Unread,
-}
-
-// The control and the topics behind a line's users; or that they were not read.
-#[derive(Clone, Copy)]
-pub enum Rest {
-    Rest(Control, Topics),
-    Unread,
-}
-
-#[derive(Clone, Copy)]
-pub enum UsersRead {
-    Users(Users),
-    Bad,
-}
-
-#[derive(Clone, Copy)]
-pub enum ControlRead {
-    Is(Control),
-    Bad,
+    pub user: Option<usize>,
+    pub password: Option<usize>,
+    pub superuser: Option<usize>,
+    pub clientid: Option<usize>,
+    pub ipaddr: Option<usize>,
+    pub protocol: Option<usize>,
 }
 
 // A topic of a rule, by the place of its string in the line.
-#[derive(Clone, Copy)]
+#[derive(Clone, Copy, Debug, PartialEq, Eq)]
 pub enum Topic {
     Filter(usize),
     Template(usize),
     Eq(usize),
     EqTemplate(usize),
-    Bad,
-}
-
-// The topics of a rule: all, or those of the array at this place.
-#[derive(Clone, Copy)]
-pub enum Topics {
-    All,
-    Listed(usize),
 }
 
 // A rule, by places in its line.
-#[derive(Clone, Copy)]
+#[derive(Clone, Copy, Debug, PartialEq, Eq)]
 pub struct Rule {
     pub allow: bool,
     pub users: Users,
     pub control: Control,
-    pub topics: Topics,
-}
-
-#[derive(Clone, Copy)]
-pub enum RuleRead {
-    Rule(Rule),
-    Refused(Refusal),
-}
-
-// An optional lent text: its length, beside the slice. A length past the slice's end means the whole slice.
-#[derive(Clone, Copy)]
-pub enum Given {
-    Absent,
-    Length(usize),
-}
-
-#[derive(Clone, Copy)]
-pub enum Identity {
-    Agrees(bool),
-    Differs,
-}
-
-#[derive(Clone, Copy)]
-pub enum UserRead {
-    User(User),
-    Bad,
-}
-
-#[derive(Clone, Copy)]
-pub enum PasswordRead {
-    Password(Place),
-    Bad,
+    pub topics: Option<usize>,
 }
 
 // The first four elements of a line's array.
-#[derive(Clone, Copy)]
+#[derive(Clone, Copy, Debug, PartialEq, Eq)]
 pub struct Parts {
-    pub access: Place,
-    pub users: Place,
-    pub control: Place,
-    pub topics: Place,
+    pub access: Option<usize>,
+    pub users: Option<usize>,
+    pub control: Option<usize>,
+    pub topics: Option<usize>,
 }
 
-// A rule text: no fault, or the first one with its line (0 the whole text, 257 too many lines, else from 1).
-#[derive(Clone, Copy)]
-pub enum TextRead {
-    Fine,
-    Faulty(Refusal, usize),
+// The name that a rule asks for, by the places of its strings in the line, and the flag.
+#[derive(Clone, Copy, Debug, PartialEq, Eq)]
+pub struct User {
+    pub name: usize,
+    pub password: Option<usize>,
+    pub superuser: bool,
 }
 
-// A rule text: the number of its rules, or its first fault, as `TextRead` has it.
-#[derive(Clone, Copy)]
-pub enum RulesCounted {
-    Rules(usize),
-    Faulty(Refusal, usize),
+// The string of a topic under `eq`, by the places of its quotes, and the place behind the object.
+#[derive(Clone, Copy, Debug, PartialEq, Eq)]
+pub struct EqText {
+    pub opens: usize,
+    pub closes: usize,
+    pub next: usize,
 }
 
-// A filled template: its length, or that it is longer than the buffer.
-#[derive(Clone, Copy)]
-pub enum Filling {
-    Length(usize),
-    TooLong,
+// What stands behind a line's users: the control, and the place of the topics, where there are any.
+#[derive(Clone, Copy, Debug, PartialEq, Eq)]
+pub struct Rest {
+    pub control: Control,
+    pub topics: Option<usize>,
+}
+
+// The first fault of a rule text, with its line (0 the whole text, 257 too many lines, else from 1).
+#[derive(Clone, Copy, Debug, PartialEq, Eq)]
+pub struct Fault {
+    pub cause: Refusal,
+    pub line: usize,
 }

@@ -1,170 +1,148 @@
 // The users that a rule lists.
-ghost use Rattle.std.specs.Prelude.{◌≡◌};
-ghost use Rattle.std.proofs.Math.Option.{bind};
+ghost use Rattle.std.specs.Prelude.{◌≡◌, ◌%◌, option_map};
+ghost use Rattle.text.specs.Maybe.{bind};
 ghost use Rattle.rule.specs.Rule as rule;
 ghost use Rattle.rule.specs.Places as spec;
 ghost use Rattle.rule.specs.Members as members;
 
 use crate::words::word_at;
-use crate::{MemberPlaces, PasswordRead, Protocol, User, UserRead, Users, UsersRead, Word};
-use json_text::access::{kind_at, member, number_value, truth};
+use crate::{EVERYONE, MemberPlaces, User, Users, Word};
+use json_text::Kind;
+use json_text::access::{kind_at, member, number_value, skip_value, truth};
 use json_text::values::{is_at, skip_blanks};
-use json_text::{Found, Kind, Place, Truth};
 
 // The value behind a member's name that ends before this place.
-pub fn value_behind(line: &[u8], at: usize) -> Place
+#[tactic(auto, unfolding(crate::specs::Members::value_behind))]
+pub fn value_behind(line: &[u8], at: usize) -> Option<usize>
     ensures { result ≡ members.value_behind line.now at }
 {
     let p = skip_blanks(line, at);
     if is_at(line, p, b':') {
-        return Place::At(skip_blanks(line, p + 1));
+        Some(skip_blanks(line, p + 1))
+    } else {
+        None
     }
-    Place::Nowhere
 }
 
 // Is the value at this place a string?
+#[tactic(auto, unfolding(crate::specs::Places::is_text_at, crate::specs::Places::is_text_kind))]
 fn is_text(line: &[u8], at: usize) -> bool
     ensures { result ≡ spec.is_text_at line.now at }
 {
-    match kind_at(line, at) {
-        Kind::Text => true,
-        _ => false,
-    }
+    kind_at(line, at) == Kind::Text
 }
 
 // The string at a place, if one stands there.
-fn text_at(line: &[u8], at: Place) -> Place
+#[tactic(auto, unfolding(crate::specs::Members::text_from))]
+fn text_at(line: &[u8], at: Option<usize>) -> Option<usize>
     ensures { result ≡ members.text_from line.now at }
 {
-    match at {
-        Place::At(p) => {
-            if is_text(line, p) {
-                return Place::At(p);
-            }
-            Place::Nowhere
-        }
-        Place::Nowhere => Place::Nowhere,
-    }
+    let p = at?;
+    if is_text(line, p) { Some(p) } else { None }
 }
 
 // The string that the last member with this name has, of the object at this place.
-pub fn text_member(line: &[u8], at: usize, name: &[u8]) -> Place
+pub fn text_member(line: &[u8], at: usize, name: &[u8]) -> Option<usize>
     ensures { result ≡ spec.text_place (bind (spec.member_of line.now at name.now) rule.as_text) }
 {
     text_at(line, member(line, at, name))
 }
 
 // "`password` must be absent or a string."
-fn password_at(line: &[u8], at: Place) -> PasswordRead
+#[tactic(auto, unfolding(crate::specs::Members::password_from))]
+fn password_at(line: &[u8], at: Option<usize>) -> Option<Option<usize>>
     ensures { result ≡ members.password_from line.now at }
 {
     match at {
-        Place::At(p) => {
-            if is_text(line, p) {
-                return PasswordRead::Password(Place::At(p));
-            }
-            PasswordRead::Bad
-        }
-        Place::Nowhere => PasswordRead::Password(Place::Nowhere),
+        Some(p) => if is_text(line, p) {
+            Some(Some(p))
+        } else {
+            None
+        },
+        None => Some(None),
     }
 }
 
 // The bool at a place, if one stands there.
-pub fn truth_at(line: &[u8], at: Place) -> Truth
+#[tactic(auto, unfolding(crate::specs::Members::truth_from))]
+pub fn truth_at(line: &[u8], at: Option<usize>) -> Option<bool>
     ensures { result ≡ members.truth_from line.now at }
 {
-    match at {
-        Place::At(p) => truth(line, p),
-        Place::Nowhere => Truth::Unknown,
-    }
+    truth(line, at?)
 }
 
 // The number at a place, if one stands there.
-pub fn number_at(line: &[u8], at: Place) -> Found
+#[tactic(auto, unfolding(crate::specs::Members::number_from))]
+pub fn number_at(line: &[u8], at: Option<usize>) -> Option<u64>
     ensures { result ≡ members.number_from line.now at }
 {
-    match at {
-        Place::At(p) => number_value(line, p),
-        Place::Nowhere => Found::Absent,
-    }
+    number_value(line, at?)
 }
 
 // The name, and under allow its password and flag.
-fn user_at(line: &[u8], places: MemberPlaces, allow: bool) -> UserRead
+#[tactic(auto, unfolding(crate::specs::Members::user_listed, crate::specs::Members::user_from, crate::specs::Members::with_password, crate::specs::Rule::flag))]
+fn user_at(line: &[u8], places: MemberPlaces, allow: bool) -> Option<Option<User>>
     ensures { result ≡ members.user_listed allow line.now places }
 {
-    let user = places.user;
-    let Place::At(name) = text_at(line, user) else {
-        return UserRead::User(User::Anyone);
+    let Some(name) = text_at(line, places.user) else {
+        return Some(None);
     };
     if !allow {
-        return UserRead::User(User::Named(name, Place::Nowhere, false));
+        return Some(Some(User {
+            name,
+            password: None,
+            superuser: false,
+        }));
     }
-    let password = places.password;
-    let PasswordRead::Password(secret) = password_at(line, password) else {
-        return UserRead::Bad;
-    };
-    let superuser = places.superuser;
-    match truth_at(line, superuser) {
-        Truth::Holds(flag) => UserRead::User(User::Named(name, secret, flag)),
-        Truth::Unknown => UserRead::User(User::Named(name, secret, false)),
-    }
+    let password = password_at(line, places.password)?;
+    let superuser = truth_at(line, places.superuser).unwrap_or(false);
+    Some(Some(User {
+        name,
+        password,
+        superuser,
+    }))
 }
 
 // "`protocol` (number modulo 256)."
-fn protocol_at(line: &[u8], at: Place) -> Protocol
-    ensures { result ≡ members.protocol_from (members.number_from line.now at) }
+fn protocol_at(line: &[u8], at: Option<usize>) -> Option<u8>
+    ensures { result ≡ option_map (λ n. n % 256) (members.number_from line.now at) }
 {
-    match number_at(line, at) {
-        Found::Is(n) => Protocol::Is((n % 256) as u8),
-        Found::Absent => Protocol::Any,
-    }
+    number_at(line, at).map(|n| (n % 256) as u8)
 }
 
 // The users, by the members of their object.
-pub fn users_of(line: &[u8], places: MemberPlaces, allow: bool) -> UsersRead
+#[tactic(auto, unfolding(crate::specs::Members::users_listed, crate::specs::Members::users_from))]
+pub fn users_of(line: &[u8], places: MemberPlaces, allow: bool) -> Option<Users>
     ensures { result ≡ members.users_listed allow line.now places }
 {
-    let UserRead::User(user) = user_at(line, places, allow) else {
-        return UsersRead::Bad;
-    };
-    let clientid = places.clientid;
-    let ipaddr = places.ipaddr;
-    let protocol = places.protocol;
-    UsersRead::Users(Users {
+    let user = user_at(line, places, allow)?;
+    Some(Users {
         user,
-        clientid: text_at(line, clientid),
-        ipaddr: text_at(line, ipaddr),
-        protocol: protocol_at(line, protocol),
+        clientid: text_at(line, places.clientid),
+        ipaddr: text_at(line, places.ipaddr),
+        protocol: protocol_at(line, places.protocol),
     })
 }
 
 // The users that the value at this place lists: `all`, or an object.
-pub fn users_at(line: &[u8], at: usize, allow: bool) -> UsersRead
-    ensures { result ≡ spec.users_answer (bind (spec.value_of line.now at) (rule.users_of allow)) }
+pub fn users_at(line: &[u8], at: usize, allow: bool) -> Option<Users>
+    ensures { result ≡ option_map spec.placed_users (bind (spec.value_of line.now at) (rule.users_of allow)) }
 {
     match kind_at(line, at) {
-        Kind::Text => match word_at(line, at) {
-            Word::All => UsersRead::Users(Users {
-                user: User::Anyone,
-                clientid: Place::Nowhere,
-                ipaddr: Place::Nowhere,
-                protocol: Protocol::Any,
-            }),
-            _ => UsersRead::Bad,
+        Kind::Text => match word_at(line, at)? {
+            Word::All => Some(EVERYONE),
+            _ => None,
         },
         Kind::Object => listed_users(line, at, allow),
-        _ => UsersRead::Bad,
+        _ => None,
     }
 }
 
 // The users of the object at this place.
-fn listed_users(line: &[u8], at: usize, allow: bool) -> UsersRead
-    ensures { result ≡ spec.users_answer (spec.users_here allow line.now at) }
+fn listed_users(line: &[u8], at: usize, allow: bool) -> Option<Users>
+    ensures { result ≡ option_map spec.placed_users (spec.users_here allow line.now at) }
 {
-    let Place::At(_) = json_text::access::skip_value(line, at) else {
-        return UsersRead::Bad;
-    };
+    let _ = skip_value(line, at)?;
     let places = MemberPlaces {
         user: member(line, at, b"user"),
         password: member(line, at, b"password"),

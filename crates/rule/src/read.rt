@@ -1,6 +1,7 @@
 // A rule from its line, and a whole rule text.
-ghost use Rattle.std.specs.Prelude.{◌≡◌, ◌+◌, ◌≤◌, length, drop};
+ghost use Rattle.std.specs.Prelude.{◌≡◌, ◌+◌, ◌≤◌, length, drop, option_and_then};
 ghost use Rattle.json_text.specs.Json.{line_value};
+ghost use Rattle.json_text.specs.Access.{next_item};
 ghost use Rattle.json_text.specs.Lines.{lines};
 ghost use Rattle.rule.specs.Limits.{lines_limit};
 ghost use Rattle.rule.specs.Rule as rule;
@@ -10,27 +11,21 @@ ghost use Rattle.rule.specs.Places as spec;
 use crate::listed::users_at;
 use crate::one_pass::in_one_pass;
 use crate::topic_list::topics_at;
-use crate::words::{control_of, word_at};
-use crate::{
-    Control, ControlRead, LINE, LINES, Parts, Refusal, Rule, RuleRead, RulesCounted, TEXT, TOPICS,
-    TextRead, Topics, Users, UsersRead, Word,
-};
+use crate::words::{access_of, control_of, word_at};
+use crate::{Control, Fault, LINE, LINES, Parts, Refusal, Rule, TEXT, TOPICS};
 use json_text::access::{count_elements, first_element, next_item};
 use json_text::splitting::{count_lines, line_end};
 use json_text::values::{check, skip_blanks};
-use json_text::{Checked, Found, Place};
 
 // The element behind one, if there is one.
-pub fn next_part(line: &[u8], at: Place) -> Place
-    ensures { result ≡ spec.next_part line.now at }
+pub fn next_part(line: &[u8], at: Option<usize>) -> Option<usize>
+    ensures { result ≡ option_and_then (next_item line.now) at }
 {
-    match at {
-        Place::At(p) => next_item(line, p),
-        Place::Nowhere => Place::Nowhere,
-    }
+    next_item(line, at?)
 }
 
 // The first four elements of the line's array.
+#[tactic(auto, unfolding(crate::specs::Places::parts_here))]
 pub fn parts(line: &[u8]) -> Parts
     ensures { result ≡ spec.parts_here line.now }
 {
@@ -47,150 +42,127 @@ pub fn parts(line: &[u8]) -> Parts
 }
 
 // "A fourth element that is an array of over 64."
-fn too_many_topics(line: &[u8], topics: Place) -> bool
+#[tactic(auto, unfolding(crate::specs::Places::too_many, crate::specs::Places::over_topics))]
+fn too_many_topics(line: &[u8], topics: Option<usize>) -> bool
     ensures { result ≡ spec.too_many line.now topics }
 {
-    let Place::At(p) = topics else {
-        return false;
-    };
-    match count_elements(line, p) {
-        Found::Is(n) => TOPICS < n,
-        Found::Absent => false,
-    }
+    topics.is_some_and(|p| count_elements(line, p) > Some(TOPICS))
 }
 
 // The control at a place, if there is one.
-fn control_at(line: &[u8], at: Place) -> ControlRead
+#[tactic(auto, unfolding(crate::specs::Places::control_here))]
+fn control_at(line: &[u8], at: Option<usize>) -> Option<Control>
     ensures { result ≡ spec.control_here line.now at }
 {
     match at {
-        Place::At(p) => control_of(word_at(line, p)),
-        Place::Nowhere => ControlRead::Is(Control::All),
+        Some(p) => control_of(word_at(line, p)?),
+        None => Some(Control::All),
     }
+}
+
+// The access at a place, if there is one.
+#[tactic(auto, unfolding(crate::specs::Places::access_here))]
+fn access_at(line: &[u8], at: Option<usize>) -> Option<bool>
+    ensures { result ≡ option_and_then (spec.access_here line.now) at }
+{
+    access_of(word_at(line, at?)?)
 }
 
 // The rule behind its access: users, control, topics.
-fn rule_behind(line: &[u8], parts: Parts, allow: bool) -> RuleRead
+#[tactic(auto, unfolding(crate::specs::Places::rule_behind, crate::specs::Places::with_users, crate::specs::Places::with_control, crate::specs::Places::with_topics, crate::specs::Places::users_of_place))]
+fn rule_behind(line: &[u8], parts: Parts, allow: bool) -> Option<Rule>
     ensures { result ≡ spec.rule_behind line.now parts allow }
 {
-    let at_users = parts.users;
-    let Place::At(p) = at_users else {
-        return RuleRead::Refused(Refusal::NotARule);
-    };
-    let UsersRead::Users(users) = users_at(line, p, allow) else {
-        return RuleRead::Refused(Refusal::NotARule);
-    };
-    let at_control = parts.control;
-    let ControlRead::Is(control) = control_at(line, at_control) else {
-        return RuleRead::Refused(Refusal::NotARule);
-    };
-    let at_topics = parts.topics;
-    match at_topics {
-        Place::Nowhere => RuleRead::Rule(Rule {
-            allow,
-            users,
-            control,
-            topics: Topics::All,
-        }),
-        Place::At(t) => {
-            if topics_at(line, t) {
-                return RuleRead::Rule(Rule {
-                    allow,
-                    users,
-                    control,
-                    topics: Topics::Listed(t),
-                });
-            }
-            RuleRead::Refused(Refusal::NotARule)
+    let users = users_at(line, parts.users?, allow)?;
+    let control = control_at(line, parts.control)?;
+    if let Some(t) = parts.topics {
+        if !topics_at(line, t) {
+            return None;
         }
     }
+    Some(Rule {
+        allow,
+        users,
+        control,
+        topics: parts.topics,
+    })
 }
 
 // The rule of a line that is a document without a string over 256 bytes.
-fn rule_of(line: &[u8]) -> RuleRead
+#[tactic(auto, unfolding(crate::specs::Places::rule_here, crate::specs::Places::with_access, crate::specs::RuleText::or_not_a_rule))]
+fn rule_of(line: &[u8]) -> Result<Rule, Refusal>
     ensures { result ≡ spec.rule_here line.now }
 {
-    let p = parts(line);
-    let topics = p.topics;
-    if too_many_topics(line, topics) {
-        return RuleRead::Refused(Refusal::TooLong);
+    let parts = parts(line);
+    if too_many_topics(line, parts.topics) {
+        return Err(Refusal::TooLong);
     }
-    let access = p.access;
-    let Place::At(a) = access else {
-        return RuleRead::Refused(Refusal::NotARule);
-    };
-    match word_at(line, a) {
-        Word::Allow => rule_behind(line, p, true),
-        Word::Deny => rule_behind(line, p, false),
-        _ => RuleRead::Refused(Refusal::NotARule),
-    }
+    let allow = access_at(line, parts.access).ok_or(Refusal::NotARule)?;
+    rule_behind(line, parts, allow).ok_or(Refusal::NotARule)
 }
 
 // The rule of a line, or the first refusal in document 01's order.
-pub fn read_rule(line: &[u8]) -> RuleRead
+pub fn read_rule(line: &[u8]) -> Result<Rule, Refusal>
     ensures { result ≡ spec.rule_answer (spec.fourth_of (line_value line.now)) (text_spec.read_rule line.now) }
 {
     if LINE < line.len() {
-        return RuleRead::Refused(Refusal::TooLong);
+        return Err(Refusal::TooLong);
     }
     // Most lines are rules that one pass reads.
-    if let RuleRead::Rule(rule) = in_one_pass(line) {
-        return RuleRead::Rule(rule);
+    if let Some(rule) = in_one_pass(line) {
+        return Ok(rule);
     }
-    match check(line) {
-        Checked::Invalid => RuleRead::Refused(Refusal::NotJson),
-        Checked::Valid(longest) => {
-            if TEXT < longest {
-                return RuleRead::Refused(Refusal::TooLong);
-            }
-            rule_of(line)
-        }
+    let longest = check(line).ok_or(Refusal::NotJson)?;
+    if TEXT < longest {
+        return Err(Refusal::TooLong);
     }
+    rule_of(line)
 }
 
+// The fault of a text with more lines than a store takes.
+const OVER_LINES: Fault = Fault {
+    cause: Refusal::TooLong,
+    line: LINES + 1,
+};
+
 // What a faulty line, which begins at `at` behind `n` rules, is answered by: over 256 lines come first in document 01's order.
-fn faulty_line(text: &[u8], at: usize, n: usize, cause: Refusal) -> RulesCounted
+fn faulty_line(text: &[u8], at: usize, n: usize, cause: Refusal) -> Fault
     requires at_in_bounds { at ≤ length text.now }
     requires n_le_lines_limit { n ≤ lines_limit }
     ensures { result ≡ spec.faulty_line (n + length (lines (drop at text.now))) cause (n + 1) }
 {
     let most = LINES - n;
     if most < count_lines(&text[at..], most) {
-        return RulesCounted::Faulty(Refusal::TooLong, LINES + 1);
+        return OVER_LINES;
     }
-    RulesCounted::Faulty(cause, n + 1)
+    Fault { cause, line: n + 1 }
 }
 
 // The rules of a text, in one pass over its lines.
-pub fn count_rules(text: &[u8]) -> RulesCounted
+pub fn count_rules(text: &[u8]) -> Result<usize, Fault>
     ensures { result ≡ spec.rules_answer (length (lines text.now)) (text_spec.text_fault text.now) }
 {
     let mut n = 0;
     let mut at = 0;
     while at < text.len() {
         if n == LINES {
-            return RulesCounted::Faulty(Refusal::TooLong, LINES + 1);
+            return Err(OVER_LINES);
         }
         let end = line_end(text, at);
-        match read_rule(&text[at..end]) {
-            RuleRead::Refused(cause) => {
-                return faulty_line(text, at, n, cause);
-            }
-            RuleRead::Rule(_) => {
-                at = end + 1;
-                n += 1;
-            }
+        if let Err(cause) = read_rule(&text[at..end]) {
+            return Err(faulty_line(text, at, n, cause));
         }
+        at = end + 1;
+        n += 1;
     }
-    RulesCounted::Rules(n)
+    Ok(n)
 }
 
 // A rule text: over 256 lines, or its first faulty line, or none.
-pub fn check_text(text: &[u8]) -> TextRead
+#[tactic(auto, unfolding(crate::specs::Places::text_answer, crate::specs::Places::rules_answer))]
+pub fn check_text(text: &[u8]) -> Result<(), Fault>
     ensures { result ≡ spec.text_answer (text_spec.text_fault text.now) }
 {
-    match count_rules(text) {
-        RulesCounted::Rules(_) => TextRead::Fine,
-        RulesCounted::Faulty(cause, line) => TextRead::Faulty(cause, line),
-    }
+    count_rules(text)?;
+    Ok(())
 }

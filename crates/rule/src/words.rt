@@ -3,12 +3,13 @@ ghost use Rattle.std.specs.Prelude.{◌≡◌};
 ghost use Rattle.rule.specs.Rule as rule;
 ghost use Rattle.rule.specs.Places as spec;
 
-use crate::{Control, ControlRead, Word};
-use json_text::Copied;
+use crate::{Control, Word};
+use json_text::strings::decode;
 
 // The longest word has nine letters.
 const LONGEST: usize = 9;
 
+#[tactic(auto, unfolding(crate::specs::Rule::lower, json_text::specs::Utf8::between))]
 fn lower(b: u8) -> u8
     ensures { result ≡ rule.lower b }
 {
@@ -18,75 +19,82 @@ fn lower(b: u8) -> u8
     }
 }
 
-// Are the bytes, with their letters lowered, this word?
+// Are the bytes, with their letters lowered, this word? `eq_ignore_ascii_case` would lower the word too, which promises something else.
 pub fn is_word(text: &[u8], word: &[u8]) -> bool
     ensures { result ≡ rule.is_word word.now text.now }
 {
     if text.len() != word.len() {
         return false;
     }
-    let mut i = 0;
-    while i < text.len() {
+    for i in 0..text.len() {
         if lower(text[i]) != word[i] {
             return false;
         }
-        i += 1;
     }
     true
 }
 
 // The word that the text is.
-pub fn word_of(text: &[u8]) -> Word
+#[tactic(auto, unfolding(crate::specs::Places::word_of))]
+pub fn word_of(text: &[u8]) -> Option<Word>
     ensures { result ≡ spec.word_of text.now }
 {
     if is_word(text, b"allow") {
-        return Word::Allow;
+        return Some(Word::Allow);
     }
     if is_word(text, b"deny") {
-        return Word::Deny;
+        return Some(Word::Deny);
     }
     if is_word(text, b"all") {
-        return Word::All;
+        return Some(Word::All);
     }
     if is_word(text, b"connect") {
-        return Word::Connect;
+        return Some(Word::Connect);
     }
     if is_word(text, b"publish") {
-        return Word::Publish;
+        return Some(Word::Publish);
     }
     if is_word(text, b"subscribe") {
-        return Word::Subscribe;
+        return Some(Word::Subscribe);
     }
     if is_word(text, b"pubsub") {
-        return Word::Pubsub;
+        return Some(Word::Pubsub);
     }
-    Word::Other
+    None
+}
+
+// "Access: `allow`, `deny`."
+#[tactic(auto, unfolding(crate::specs::Places::access_of_word))]
+pub fn access_of(word: Word) -> Option<bool>
+    ensures { result ≡ spec.access_of_word word }
+{
+    match word {
+        Word::Allow => Some(true),
+        Word::Deny => Some(false),
+        Word::All | Word::Connect | Word::Publish | Word::Subscribe | Word::Pubsub => None,
+    }
 }
 
 // "Control: absent, `all`, `connect`, `publish`, `subscribe`, `pubsub`."
-pub fn control_of(word: Word) -> ControlRead
+#[tactic(auto, unfolding(crate::specs::Places::control_of_word))]
+pub fn control_of(word: Word) -> Option<Control>
     ensures { result ≡ spec.control_of_word word }
 {
     match word {
-        Word::All => ControlRead::Is(Control::All),
-        Word::Connect => ControlRead::Is(Control::Connect),
-        Word::Publish => ControlRead::Is(Control::Publish),
-        Word::Subscribe => ControlRead::Is(Control::Subscribe),
-        Word::Pubsub => ControlRead::Is(Control::Pubsub),
-        Word::Allow => ControlRead::Bad,
-        Word::Deny => ControlRead::Bad,
-        Word::Other => ControlRead::Bad,
+        Word::All => Some(Control::All),
+        Word::Connect => Some(Control::Connect),
+        Word::Publish => Some(Control::Publish),
+        Word::Subscribe => Some(Control::Subscribe),
+        Word::Pubsub => Some(Control::Pubsub),
+        Word::Allow | Word::Deny => None,
     }
 }
 
 // The word that the string at this place is, decoded. No word is longer than nine bytes, so no more is decoded.
-pub fn word_at(line: &[u8], at: usize) -> Word
+pub fn word_at(line: &[u8], at: usize) -> Option<Word>
     ensures { result ≡ spec.word_at line.now at }
 {
     let mut text = [0u8; LONGEST];
-    match json_text::strings::decode(line, at, &mut text) {
-        Copied::Length(n) => word_of(&text[..n]),
-        Copied::TooLong => Word::Other,
-        Copied::NoText => Word::Other,
-    }
+    let n = decode(line, at, &mut text).ok()?;
+    word_of(&text[..n])
 }

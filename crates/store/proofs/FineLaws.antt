@@ -2,7 +2,7 @@
 -- the rows that they say are written to. Stated once for a table, and for each kind of row. Assumes nothing.
 use Prim.Native.Nat.{ℕ, suc, ◌+◌, ◌*◌, ◌-◌, ◌≤◌, ◌<◌}
 use mathlib.Core.Path.{◌≡◌, refl, ◌∙◌}
-use mathlib.Core.Bool.{Bool, true, false, ◌&&◌, ◌||◌, not}
+use mathlib.Core.Bool.{Bool, true, false, ◌||◌, not}
 use mathlib.Core.List.{List, [], ◌∷◌, ◌++◌, map, Memᴰ}
 use native.Mathlib.Nat.{div-add-mod', mul-le-mul_right, le_of_mul-le-mul_right}
 use native.Mathlib.Omega.{arith}
@@ -22,7 +22,7 @@ use Rattle.rule.specs.Limits.{text_limit, id_limit}
 use Rattle.store.specs.Store.{session_limit, over, FilterRow, ownerless}
 use Rattle.store.specs.Layout.{pad, Codec, field, filter_text, filter_owner, filter_codec, numbered_text, numbered_codec, eq_codec, note_codec, put_all, get_all, area}
 use Rattle.store.specs.View.{rules, bad_eq, bad_filter, bad_note}
-use Rattle.store.specs.Check.{padded, filter_fine, numbered_fine}
+use Rattle.store.specs.Check.{padded, filter_fine, numbered_fine, table_fine}
 use Rattle.store.proofs.LayoutLaws.{Reads, numbered_reads, filter_reads, good_filter, pad-length, pad-take, pad-drop, area-length, area-rows, area_unused}
 
 -- bytes of which all behind the first `n` are zero are these, padded
@@ -44,13 +44,6 @@ pub record Tested {Row : Type 0} (c : Codec Row) (bad : Row → Bool) (fine : Li
   pub again : (b : List ℕ) → length b ≡ c.size → Bytes b → fine b ≡ true → c.put (c.get b) ≡ b
   pub good : (b : List ℕ) → fine b ≡ true → bad (c.get b) ≡ false
 
--- a table by such a test, with rows of so many bytes: `table_fine` of either kind
-abbrev pub fine_table : (List ℕ → Bool) → ℕ → ℕ → List ℕ → Bool
-fine_table fine size used part =
-    leb (used * size) (length part)
-    && (not (some_row (λ r. not (fine r)) (rows size used part))
-    && (zeros (drop (used * size) part) && distinct same (rows size used part)))
-
 -- a table of bytes has so many rows, they are sound, and it is what they are written to
 pub record Held {Row : Type 0} {same_row : Row → Row → Bool} (E : Equals same_row) (c : Codec Row) (bad : Row → Bool) (room used : ℕ)
     (part : List ℕ) : Type 0 where
@@ -61,7 +54,8 @@ pub record Held {Row : Type 0} {same_row : Row → Row → Bool} (E : Equals sam
 module _ {Row : Type 0} {same_row : Row → Row → Bool} {c : Codec Row} {bad : Row → Bool} {fine : List ℕ → Bool}
     (E : Equals same_row) (T : Tested c bad fine) where
   -- sound rows are written to a fine table
-  pub table_fine_lem : (room : ℕ) (rs : List Row) → Sound E bad room rs → fine_table fine c.size (length rs) (area c room rs) ≡ true
+  pub table_fine_lem : (room : ℕ) (rs : List Row) → Sound E bad room rs → table_fine c.size fine (length rs) (area c room rs) ≡ true
+  unfolding table_fine
   table_fine_lem room rs s =
       let there : length rs * c.size ≤ length (area c room rs) =
       omega (arith, area-length T.reads room rs s.good s.fits, mul-le-mul_right c.size s.fits) in
@@ -85,7 +79,8 @@ module _ {Row : Type 0} {same_row : Row → Row → Bool} {c : Codec Row} {bad :
     rest : zeros (drop (used * c.size) part) ≡ true
     unequal : distinct same (rows c.size used part) ≡ true
 
-  fine_parts : (used : ℕ) (part : List ℕ) → fine_table fine c.size used part ≡ true → Fine used part
+  fine_parts : (used : ℕ) (part : List ℕ) → table_fine c.size fine used part ≡ true → Fine used part
+  unfolding table_fine
   fine_parts used part e =
       let a = and_split (leb (used * c.size) (length part)) _ e in
       let b = and_split (not (some_row (λ r. not (fine r)) (rows c.size used part))) _ a.1 in
@@ -102,7 +97,7 @@ module _ {Row : Type 0} {same_row : Row → Row → Bool} {c : Codec Row} {bad :
   put_get (b ∷ rs) h = rw (h b (Memᴰ.head refl), put_get rs (λ t m. h t (Memᴰ.tail m)))
 
   module _ (room used : ℕ) (part : List ℕ) (some : 0 < c.size) (whole : length part ≡ room * c.size) (bytes : Bytes part)
-      (e : fine_table fine c.size used part ≡ true) where
+      (e : table_fine c.size fine used part ≡ true) where
     table_count : length (get_all c used part) ≡ used
     unfolding get_all
     table_count = length-map (rows c.size used part) c.get ∙ rows_count c.size used part (fine_parts used part e).there

@@ -1,9 +1,13 @@
 -- Laws of opening: counts in range, each answer of `open`, and the bytes that it writes. Assumes nothing.
 use Prim.Native.Nat.{ℕ, ◌+◌, ◌-◌, ◌*◌, ◌≤◌, ◌<◌}
 use mathlib.Core.Path.{◌≡◌, refl, sym, ap, ◌∙◌}
-use mathlib.Core.Bool.{Bool, true, false, ◌&&◌, cond, true≢false}
+use mathlib.Core.Bool.{Bool, true, false, cond}
 use mathlib.Core.List.{List, [], ◌++◌}
-use mathlib.Core.Option.{Option, none, some, map}
+use Rattle.std.specs.Prelude.{Option, None, Some, Result, Ok, Err}
+use Rattle.std.specs.Option.{option_map, ok_or}
+use Rattle.std.specs.Result.{result_ok, IsErrAnd}
+use Rattle.std.proofs.lemmas.Result.{err_from_is_err_and}
+use Rattle.json_text.specs.Lines.{lines}
 use native.Mathlib.Nat.{sub-zero}
 use native.Mathlib.Omega.{arith}
 use borrow.Author.Tests.{eq-eqb, ne_eqb, leb-true, le-leb, lt-leb, lt-ltb, le-ltb}
@@ -11,25 +15,30 @@ use lib.Dec.{leb}
 use lib.ListN.{length, take, drop, replicate, length-drop, replicate-append-replicate}
 use lib.Seq.{take_all}
 use Rattle.text.specs.Text.{pasted}
-use Rattle.text.proofs.Laws.{isnt, and_split}
+use Rattle.text.proofs.Laws.{and_split}
 use Rattle.table.specs.Bytes.{u16, zeros, join}
-use Rattle.rule.specs.RuleText.{Fault, text_fault}
-use Rattle.rule.specs.Places.{text_answer}
-use Rattle.rule.specs.declared.Refusal.{Refusal}
+use Rattle.rule.specs.RuleText.{text_fault}
+use Rattle.rule.specs.declared.Fault.{Fault}
+use Rattle.rule.specs.Places.{text_answer, rules_answer}
 use Rattle.rule.specs.declared.Refusal.TheVariants.{TooLong, Counts as CountsCause}
-use Rattle.rule.specs.declared.TextRead.{TextRead}
-use Rattle.rule.specs.declared.TextRead.TheVariants.{Fine, Faulty}
 use Rattle.store.specs.declared.Counts.{Counts}
-use Rattle.store.specs.declared.CountsRead.{CountsRead}
-use Rattle.store.specs.declared.CountsRead.TheVariants.{Counts as CountsAre, OutOfRange}
-use Rattle.store.specs.declared.Opened.TheVariants.{Done, Refused}
 use Rattle.store.specs.Store.{one_to, counts_fit, store_length, bytes_limit, rows_limit, filter_size, eq_size, note_size}
 use Rattle.store.specs.Layout.{Codec, pad, filter_codec, numbered_codec, eq_codec, note_codec, put_all, area, header, layout}
-use Rattle.store.specs.declared.RulesRead.TheVariants.{Rules, Malformed as BadText}
 use Rattle.store.specs.View.{faultless, rules}
 use Rattle.store.specs.Check.{counts_read, text_fine, text_rules}
 use Rattle.store.specs.Opening.{open_fault, opened, after_open, told, says}
 use Rattle.store.proofs.RowLaws.{pasted_into, pasted-pad}
+
+-- ---- what `?` passes on
+
+pub passed_on : {T E : Type 0} {e : E} (r : Result T E) → IsErrAnd r (λ x. x ≡ e) → r ≡ Err e
+passed_on r h = let p = err_from_is_err_and r h in p.1 ∙ ap Err p.2
+
+-- behind `ok_or`: there was no value, and the answer is its refusal
+pub missing : {A B E : Type 0} (o : Option A) {e f : E} {r : Result A E} (s : Result B E) → r ≡ ok_or o f → r ≡ Err e → IsErrAnd s (λ x. x ≡ e)
+    → (o ≡ None) × (s ≡ Err f)
+missing None {e} {f} s h k p = let same : e ≡ f = cc in (refl, passed_on s p ∙ ap Err same)
+missing (Some x) {e} {f} {r} s h k p = let z : ◌≡◌ {A = ℕ} 0 1 = cc in absurd (omega arith)
 
 -- ---- counts
 
@@ -44,13 +53,9 @@ pub record InRange (c : Counts) : Type 0 where
   pub notes_some : 1 ≤ c.notes
   pub notes_most : c.notes ≤ rows_limit
 
-one_to_lem : (most n : ℕ) → one_to most n ≡ true → (1 ≤ n) × (n ≤ most)
+pub one_to_lem : (most n : ℕ) → one_to most n ≡ true → (1 ≤ n) × (n ≤ most)
 unfolding one_to
 one_to_lem most n e = let h = and_split (leb 1 n) _ e in (leb-true 1 n h.0, leb-true n most h.1)
-
-to_one : (most n : ℕ) → 1 ≤ n → n ≤ most → one_to most n ≡ true
-unfolding one_to
-to_one most n h k = rw (le-leb 1 n h, le-leb n most k)
 
 pub fit_range : (c : Counts) → counts_fit c ≡ true → InRange c
 unfolding counts_fit
@@ -73,99 +78,80 @@ fit_range c e =
       notes_most = notes.1;
     }
 
-pub range_fit : (c : Counts) → InRange c → counts_fit c ≡ true
-unfolding counts_fit
-range_fit c h =
-    rw (
-      to_one bytes_limit c.bytes h.bytes_some h.bytes_most,
-      to_one rows_limit c.filters h.filters_some h.filters_most,
-      to_one rows_limit c.eqs h.eqs_some h.eqs_most,
-      to_one rows_limit c.notes h.notes_some h.notes_most,
-    )
-
--- the two answers of `Counts::new`
-pub counts_out : (c : Counts) → (InRange c → ⊥) → OutOfRange ≡ counts_read c
+-- what the answers of `Counts::new` tell
+pub out_told : {answer : Option Counts} (c : Counts) → answer ≡ counts_read c → answer ≡ None → counts_fit c ≡ false
 unfolding counts_read
-counts_out c h = rw (isnt (counts_fit c) (λ e. h (fit_range c e)))
-
-pub counts_in : (c : Counts) → InRange c → CountsAre c ≡ counts_read c
-unfolding counts_read
-counts_in c h = rw (range_fit c h)
-
--- what they tell
-pub out_told : {answer : CountsRead} (c : Counts) → answer ≡ counts_read c → answer ≡ OutOfRange → counts_fit c ≡ false
-out_told c e q =
-    isnt (counts_fit c)
-    (λ h.
-    let known = counts_in c (fit_range c h) in
-    let z : ◌≡◌ {A = ℕ} 0 1 = cc in
-    omega arith)
-
-pub in_told : {answer : CountsRead} {d : Counts} (c : Counts) → answer ≡ counts_read c → answer ≡ CountsAre d → (counts_fit c ≡ true) × (d ≡ c)
-in_told {answer} {d} c e q = at (counts_fit c) refl
+out_told c e q = by (counts_fit c) (sym e ∙ q)
   where
-    at : (t : Bool) → counts_fit c ≡ t → (t ≡ true) × (d ≡ c)
-    at true h =
-        let known = counts_in c (fit_range c h) in
-        let same : d ≡ c = cc in
-        (refl, same)
-    at false h =
-        let known = counts_out c (λ r. true≢false (sym (range_fit c r) ∙ h)) in
-        let z : ◌≡◌ {A = ℕ} 0 1 = cc in
-        absurd (omega arith)
+    by : (fit : Bool) → cond fit (Some c) None ≡ None → fit ≡ false
+    by true h = let z : ◌≡◌ {A = ℕ} 0 1 = cc in absurd (omega arith)
+    by false h = refl
+
+pub in_told : {answer : Option Counts} {d : Counts} (c : Counts) → answer ≡ counts_read c → answer ≡ Some d → (counts_fit c ≡ true) × (d ≡ c)
+unfolding counts_read
+in_told {answer} {d} c e q = by (counts_fit c) (sym e ∙ q)
+  where
+    by : (fit : Bool) → cond fit (Some c) None ≡ Some d → (fit ≡ true) × (d ≡ c)
+    by true h = let same : d ≡ c = cc in (refl, same)
+    by false h = let z : ◌≡◌ {A = ℕ} 0 1 = cc in absurd (omega arith)
 
 -- ---- the check of a text
 
 -- what its answers tell
-pub faulty_told : {answer : TextRead} {cause : Refusal} {line : ℕ} (text : List ℕ) → answer ≡ text_answer (text_fault text) → answer ≡ Faulty cause line
-    → text_fault text ≡ some (record { cause = cause; line = line })
-unfolding text_answer
-faulty_told {answer} {cause} {line} text e q = at (text_fault text) (sym e ∙ q)
+pub faulty_told : {answer : Result (Unit {0}) Fault} {fault : Fault} (text : List ℕ) → answer ≡ text_answer (text_fault text) → answer ≡ Err fault
+    → text_fault text ≡ Some fault
+unfolding text_answer rules_answer
+faulty_told {answer} {fault} text e q = at (text_fault text) (sym e ∙ q)
   where
-    at : (f : Option Fault) → text_answer f ≡ Faulty cause line → f ≡ some (record { cause = cause; line = line })
-    at none h = let z : ◌≡◌ {A = ℕ} 0 1 = cc in absurd (omega arith)
-    at (some f) h =
-        let first : f.cause ≡ cause = cc in
-        let second : f.line ≡ line = cc in
-        λ i. some (record { cause = first i; line = second i })
+    at : (f : Option Fault) → text_answer f ≡ Err fault → f ≡ Some fault
+    at None h = let z : ◌≡◌ {A = ℕ} 0 1 = cc in absurd (omega arith)
+    at (Some f) h = let same : f ≡ fault = cc in ap Some same
 
-pub fine_told : {answer : TextRead} (text : List ℕ) → answer ≡ text_answer (text_fault text) → answer ≡ Fine → text_fault text ≡ none
-unfolding text_answer
+pub fine_told : {answer : Result (Unit {0}) Fault} (text : List ℕ) → answer ≡ text_answer (text_fault text) → answer ≡ Ok tt → text_fault text ≡ None
+unfolding text_answer rules_answer
 fine_told {answer} text e q = at (text_fault text) (sym e ∙ q)
   where
-    at : (f : Option Fault) → text_answer f ≡ Fine → f ≡ none
-    at none h = refl
-    at (some f) h = let z : ◌≡◌ {A = ℕ} 0 1 = cc in absurd (omega arith)
+    at : (f : Option Fault) → text_answer f ≡ Ok tt → f ≡ None
+    at None h = refl
+    at (Some f) h = let z : ◌≡◌ {A = ℕ} 0 1 = cc in absurd (omega arith)
 
--- the text of a store, by whether its padding is zero
-pub text_short : (used : ℕ) (part : List ℕ) → length part < used → false ≡ text_fine used part
-unfolding text_fine
+-- the text of a store with all its bytes: its rules, if it has no fault
+pub text_read : {answer : Result ℕ Fault} (used : ℕ) (part : List ℕ) → used ≤ length part → zeros (take (length part - used) (drop used part)) ≡ true
+    → answer ≡ rules_answer (length (lines (take used part))) (text_fault (take used part)) → result_ok answer ≡ text_rules used part
+unfolding text_rules text_fine rules faultless rules_answer
+text_read {answer} used part h z e =
+    let all = take_all (length part - used) (drop used part) (omega (arith, length-drop used part)) in
+    rw (e, le-leb used (length part) h, ← all, z) (by (text_fault (take used part)))
+  where
+    by : (f : Option Fault)
+        → result_ok (rules_answer (length (lines (take used part))) f) ≡ cond (faultless f) (Some (length (lines (take used part)))) None
+    by None = refl
+    by (Some f) = refl
+
+-- none where bytes are missing, or its padding is not zero
+pub text_short : (used : ℕ) (part : List ℕ) → length part < used → None ≡ text_rules used part
+unfolding text_rules text_fine
 text_short used part h = rw (lt-leb used (length part) h)
 
-pub text_fine_by : {zero : Bool} (used : ℕ) (part : List ℕ) → used ≤ length part → zero ≡ zeros (take (length part - used) (drop used part))
-    → (zero && faultless (text_fault (take used part))) ≡ text_fine used part
-unfolding text_fine
-text_fine_by {zero} used part h e =
+pub text_unpadded : (used : ℕ) (part : List ℕ) → used ≤ length part → zeros (take (length part - used) (drop used part)) ≡ false
+    → None ≡ text_rules used part
+unfolding text_rules text_fine
+text_unpadded used part h z =
     let all = take_all (length part - used) (drop used part) (omega (arith, length-drop used part)) in
-    rw (le-leb used (length part) h, ← all, ← e)
-
--- its rules, by whether it is fine
-pub text_rules_by : {fine : Bool} (used : ℕ) (part : List ℕ) → fine ≡ text_fine used part → cond fine (Rules (rules (take used part))) BadText ≡ text_rules used part
-unfolding text_rules
-text_rules_by used part e = λ i. cond (e i) (Rules (rules (take used part))) BadText
+    rw (le-leb used (length part) h, ← all, z)
 
 -- ---- the fault of an opening, by the tests in their order
 
 module _ (c : Counts) (text : List ℕ) (room : ℕ) where
-  pub fault_counts : counts_fit c ≡ false → open_fault c text room ≡ some (record { cause = CountsCause; line = 0 })
+  pub fault_counts : counts_fit c ≡ false → open_fault c text room ≡ Some (record { cause = CountsCause; line = 0 })
   unfolding open_fault
   fault_counts e = rw e
 
-  pub fault_length : counts_fit c ≡ true → (room ≡ store_length c → ⊥) → open_fault c text room ≡ some (record { cause = CountsCause; line = 0 })
+  pub fault_length : counts_fit c ≡ true → (room ≡ store_length c → ⊥) → open_fault c text room ≡ Some (record { cause = CountsCause; line = 0 })
   unfolding open_fault
   fault_length e h = rw (e, ne_eqb room (store_length c) h)
 
-  pub fault_over : counts_fit c ≡ true → room ≡ store_length c → c.bytes < length text → open_fault c text room ≡ some (record { cause = TooLong; line = 0 })
+  pub fault_over : counts_fit c ≡ true → room ≡ store_length c → c.bytes < length text → open_fault c text room ≡ Some (record { cause = TooLong; line = 0 })
   unfolding open_fault
   fault_over e h k = rw (e, eq-eqb room (store_length c) h, lt-ltb c.bytes (length text) k)
 
@@ -175,14 +161,14 @@ module _ (c : Counts) (text : List ℕ) (room : ℕ) where
 
 -- ---- the answer and the store afterwards
 
-pub open_refused : {cause : Refusal} {line : ℕ} (c : Counts) (text s : List ℕ) → open_fault c text (length s) ≡ some (record { cause = cause; line = line })
-    → (says (Refused cause line) ≡ map told (open_fault c text (length s))) × (s ≡ after_open c text s)
+pub open_refused : {fault : Fault} (c : Counts) (text s : List ℕ) → open_fault c text (length s) ≡ Some fault
+    → (says (Err fault) ≡ option_map told (open_fault c text (length s))) × (s ≡ after_open c text s)
 unfolding says told after_open
 open_refused c text s e = (rw e, rw (e, after_open))
 
 -- `d` are the counts that were read
-pub open_done : {d : Counts} {t : List ℕ} (c : Counts) (text s : List ℕ) → open_fault c text (length s) ≡ none → d ≡ c → t ≡ layout (opened d text)
-    → (says Done ≡ map told (open_fault c text (length s))) × (t ≡ after_open c text s)
+pub open_done : {d : Counts} {t : List ℕ} (c : Counts) (text s : List ℕ) → open_fault c text (length s) ≡ None → d ≡ c → t ≡ layout (opened d text)
+    → (says (Ok tt) ≡ option_map told (open_fault c text (length s))) × (t ≡ after_open c text s)
 unfolding says after_open
 open_done c text s e q p = (rw e, rw (e, after_open) (p ∙ ap (λ (d : Counts). layout (opened d text)) q))
 

@@ -3,7 +3,7 @@ use Prim.Native.Nat.{ℕ, ◌+◌, ◌-◌, ◌*◌, ◌≤◌, ◌<◌}
 use mathlib.Core.Path.{◌≡◌, refl, sym, ◌∙◌}
 use mathlib.Core.Bool.{Bool, true, false, ◌||◌}
 use mathlib.Core.List.{List, [], ◌∷◌, append-nil}
-use mathlib.Core.Option.{Option, none, some}
+use Rattle.std.specs.Prelude.{Option, None, Some}
 use native.Mathlib.Nat.{zero-mul, sub-zero, mul-le-mul_left, mul-le-mul_right, add-sub_cancel_left}
 use native.Mathlib.Omega.{arith}
 use lib.ListN.{length, take, drop, length-drop}
@@ -11,8 +11,6 @@ use lib.Seq.{take-take}
 use Rattle.table.specs.Table.{some_row}
 use Rattle.table.proofs.RowLaws.{rows_step, rows_short, rows_enough}
 use Rattle.store.specs.declared.Shape.{Shape}
-use Rattle.store.specs.declared.ShapeRead.{ShapeRead}
-use Rattle.store.specs.declared.ShapeRead.TheVariants.{LaidOut, Malformed}
 use Rattle.store.specs.Store.{store_length, filter_size, eq_size, note_size, View}
 use Rattle.store.specs.Layout.{Codec, filter_codec, numbered_codec, eq_codec, note_codec, pad, put_all, get_all, area, layout, filters_at, eqs_at, notes_at, text_part, filter_part, eq_part, note_part}
 use Rattle.store.specs.View.{well_formed, view}
@@ -126,19 +124,19 @@ module _ (v : View) (f : Fits v) where
 abbrev pub shape_of_lem : View → Shape
 shape_of_lem v = record { counts = v.counts; text = length v.text; filters = length v.filters; eqs = length v.eqs; notes = length v.notes }
 
-pub shape_is : {shape : Shape} {v : View} (o : Option View) → shape_of o ≡ LaidOut shape → o ≡ some v → shape ≡ shape_of_lem v
+pub shape_is : {shape : Shape} {v : View} (o : Option View) → shape_of o ≡ Some shape → o ≡ Some v → shape ≡ shape_of_lem v
 unfolding shape_of
-shape_is {shape} {v} o e h = let k : shape_of (some v) ≡ LaidOut shape = rw h at e in cc
+shape_is {shape} {v} o e h = let k : shape_of (Some v) ≡ Some shape = rw h at e in cc
 
 pub record Seen (o : Option View) (shape : Shape) : Type 0 where
   pub seen : View
-  pub is : o ≡ some seen
+  pub is : o ≡ Some seen
   pub shaped : shape ≡ shape_of_lem seen
 
-pub seen_as : (o : Option View) (shape : Shape) → shape_of o ≡ LaidOut shape → Seen o shape
+pub seen_as : (o : Option View) (shape : Shape) → shape_of o ≡ Some shape → Seen o shape
 unfolding shape_of
-seen_as none shape e = let z : ◌≡◌ {A = ℕ} 0 1 = cc in absurd (omega arith)
-seen_as (some v) shape e = record { seen = v; is = refl; shaped = cc }
+seen_as None shape e = let z : ◌≡◌ {A = ℕ} 0 1 = cc in absurd (omega arith)
+seen_as (Some v) shape e = record { seen = v; is = refl; shaped = cc }
 
 -- the store is the layout of a view, and the shape the view's
 pub data Shaped : List ℕ → Shape → Type 0 where
@@ -148,16 +146,16 @@ pub shaped-seen : {shape : Shape} (s : List ℕ) → Seen (view s) shape → Sha
 shaped-seen s g = rw (g.shaped, ← view-layout s g.seen g.is) (shaped g.seen (view-well_formed s g.seen g.is))
 
 -- what `shape` told
-pub shaped_told : {read : ShapeRead} {shape : Shape} (s : List ℕ) → read ≡ shape_of (view s) → read ≡ LaidOut shape → Shaped s shape
+pub shaped_told : {read : Option Shape} {shape : Shape} (s : List ℕ) → read ≡ shape_of (view s) → read ≡ Some shape → Shaped s shape
 shaped_told s p q = shaped-seen s (seen_as (view s) _ (sym p ∙ q))
 
-pub malformed_told : {read : ShapeRead} (s : List ℕ) → read ≡ shape_of (view s) → read ≡ Malformed → view s ≡ none
+pub malformed_told : {read : Option Shape} (s : List ℕ) → read ≡ shape_of (view s) → read ≡ None → view s ≡ None
 unfolding shape_of
 malformed_told s p q = at (view s) (sym p ∙ q)
   where
-    at : (o : Option View) → shape_of o ≡ Malformed → o ≡ none
-    at none e = refl
-    at (some v) e = cc
+    at : (o : Option View) → shape_of o ≡ None → o ≡ None
+    at None e = refl
+    at (Some v) e = cc
 
 -- the numbers that a part of a store goes by
 pub record Bounds (s : List ℕ) (shape : Shape) : Type 0 where
@@ -174,5 +172,5 @@ bounds_of (shaped v e) =
     let counts-fit = (openable_parts _ _ (well_formed_parts v e).head).counts in
     record { size = layout-length v f; range = fit_range v.counts counts-fit; text = f.text; filters = f.filters; eqs = f.eqs; notes = f.notes }
 
-pub bounds_told : {read : ShapeRead} {shape : Shape} (s : List ℕ) → read ≡ shape_of (view s) → read ≡ LaidOut shape → Bounds s shape
+pub bounds_told : {read : Option Shape} {shape : Shape} (s : List ℕ) → read ≡ shape_of (view s) → read ≡ Some shape → Bounds s shape
 bounds_told s p q = bounds_of (shaped_told s p q)

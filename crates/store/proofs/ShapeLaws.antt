@@ -1,10 +1,10 @@
 -- Laws of the check of a whole store: what its tests told, each of a stretch of the code's own, and its two answers. Assumes nothing but
 -- that the elements are bytes.
-use Prim.Native.Nat.{ℕ, suc, ◌-◌, ◌*◌, ◌≤◌}
+use Prim.Native.Nat.{ℕ, suc, ◌-◌, ◌*◌}
 use mathlib.Core.Path.{◌≡◌, refl, sym, ◌∙◌}
 use mathlib.Core.Bool.{Bool, true, false, cond}
 use mathlib.Core.List.{List}
-use mathlib.Core.Option.{Option, none, some}
+use Rattle.std.specs.Prelude.{Option, None, Some}
 use native.Mathlib.Omega.{arith}
 use borrow.Author.Tests.{eq-eqb}
 use lib.ListN.{length, take, drop}
@@ -12,21 +12,15 @@ use Rattle.text.proofs.Laws.{isnt}
 use Rattle.table.specs.Bytes.{number}
 use Rattle.table.proofs.JoinLaws.{Bytes}
 use Rattle.store.specs.declared.Counts.{Counts}
-use Rattle.store.specs.declared.CountsRead.{CountsRead}
-use Rattle.store.specs.declared.Shape.{Shape}
-use Rattle.store.specs.declared.ShapeRead.{ShapeRead}
-use Rattle.store.specs.declared.ShapeRead.TheVariants.{LaidOut, Malformed}
-use Rattle.store.specs.declared.RulesRead.{RulesRead}
-use Rattle.store.specs.declared.RulesRead.TheVariants.{Rules, Malformed as BadText}
-use Rattle.store.specs.Store.{counts_fit, store_length, filter_size, eq_size, note_size, session_limit, View}
+use Rattle.store.specs.Store.{counts_fit, store_length, filter_size, eq_size, note_size, session_limit}
 use Rattle.store.specs.Layout.{counts, text_used, filters_used, eqs_used, notes_used, filters_at, eqs_at, notes_at, text_part, filter_part, eq_part, note_part}
 use Rattle.store.specs.View.{view}
-use Rattle.store.specs.Check.{counts_read, text_fine, text_rules, table_fine, rules_of, laid_out, shape_of, is_there}
+use Rattle.store.specs.Check.{counts_read, text_fine, text_rules, filter_fine, numbered_fine, table_fine, rules_of, laid_out, shape_of}
 use Rattle.store.proofs.ViewLaws.{Laid, laid, shape_laid_out, shape_malformed}
 
 -- ---- the answers
 
-pub shape_not : (s : List ℕ) → Bytes s → (Laid s → ⊥) → Malformed ≡ shape_of (view s)
+pub shape_not : (s : List ℕ) → Bytes s → (Laid s → ⊥) → None ≡ shape_of (view s)
 shape_not s y h = sym (shape_malformed s y (isnt (laid_out s) (λ e. h (laid s e))))
 
 pub laid_made : (s : List ℕ) → Laid s → laid_out s ≡ true
@@ -35,26 +29,15 @@ laid_made s l = rw (l.fits, eq-eqb _ _ l.size, l.text, l.filters, l.eqs) l.notes
 
 pub shape_is : {d : Counts} {text filters eqs notes : ℕ} (s : List ℕ) → Bytes s → Laid s → d ≡ counts s → text ≡ number (drop 8 s)
     → filters ≡ number (drop 10 s) → eqs ≡ number (drop 12 s) → notes ≡ number (drop 14 s)
-    → LaidOut (record { counts = d; text = text; filters = filters; eqs = eqs; notes = notes }) ≡ shape_of (view s)
+    → Some (record { counts = d; text = text; filters = filters; eqs = eqs; notes = notes }) ≡ shape_of (view s)
 unfolding text_used filters_used eqs_used notes_used
 shape_is s y l p q r t u =
-    (λ i. LaidOut (record { counts = p i; text = q i; filters = r i; eqs = t i; notes = u i })) ∙ sym (shape_laid_out s y (laid_made s l))
-
--- what they tell
-pub laid_out_told : {answer : ShapeRead} {shape : Shape} (v : Option View) → answer ≡ shape_of v → answer ≡ LaidOut shape → true ≡ is_there v
-unfolding shape_of is_there
-laid_out_told none e q = let z : ◌≡◌ {A = ℕ} 0 1 = cc in absurd (omega arith)
-laid_out_told (some v) e q = refl
-
-pub malformed_told : {answer : ShapeRead} (v : Option View) → answer ≡ shape_of v → answer ≡ Malformed → false ≡ is_there v
-unfolding shape_of is_there
-malformed_told none e q = refl
-malformed_told (some v) e q = let z : ◌≡◌ {A = ℕ} 0 1 = cc in absurd (omega arith)
+    (λ i. Some (record { counts = p i; text = q i; filters = r i; eqs = t i; notes = u i })) ∙ sym (shape_laid_out s y (laid_made s l))
 
 -- ---- the header
 
 -- what `Counts::new` answers of its first four numbers
-pub header_told : {answer : CountsRead} {b f e n : ℕ} (s : List ℕ) → b ≡ number (drop 0 s) → f ≡ number (drop 2 s) → e ≡ number (drop 4 s)
+pub header_told : {answer : Option Counts} {b f e n : ℕ} (s : List ℕ) → b ≡ number (drop 0 s) → f ≡ number (drop 2 s) → e ≡ number (drop 4 s)
     → n ≡ number (drop 6 s) → answer ≡ counts_read (record { bytes = b; filters = f; eqs = e; notes = n }) → answer ≡ counts_read (counts s)
 unfolding counts
 header_told s p q r t h = h ∙ (λ i. counts_read (record { bytes = p i; filters = q i; eqs = r i; notes = t i }))
@@ -64,17 +47,6 @@ pub record Counted (s : List ℕ) (d : Counts) : Type 0 where
   pub fits : counts_fit (counts s) ≡ true
   pub size : length s ≡ store_length (counts s)
   pub read : d ≡ counts s
-
--- the stretches follow one another
-pub record Bounds (s : List ℕ) : Type 0 where
-  pub filters : 16 ≤ filters_at (counts s)
-  pub eqs : filters_at (counts s) ≤ eqs_at (counts s)
-  pub notes : eqs_at (counts s) ≤ notes_at (counts s)
-  pub end : notes_at (counts s) ≤ length s
-
-pub bounds : (s : List ℕ) → length s ≡ store_length (counts s) → Bounds s
-unfolding filters_at eqs_at notes_at store_length
-bounds s e = record { filters = omega arith; eqs = omega arith; notes = omega arith; end = omega arith }
 
 -- ---- the stretches, as the code cuts them
 
@@ -96,40 +68,40 @@ note_cut {from} s e p = let n : length s - from ≡ (counts s).notes * note_size
 
 -- ---- what each test told
 
-module _ {answer : RulesRead} {used at : ℕ} (s : List ℕ) (p : used ≡ number (drop 8 s)) (q : at ≡ filters_at (counts s))
+module _ {answer : Option ℕ} {used at : ℕ} (s : List ℕ) (p : used ≡ number (drop 8 s)) (q : at ≡ filters_at (counts s))
     (h : answer ≡ text_rules used (take (at - 16) (drop 16 s))) where
-  of_text : answer ≡ cond (text_fine (text_used s) (text_part s)) (Rules (rules_of s)) BadText
+  of_text : answer ≡ cond (text_fine (text_used s) (text_part s)) (Some (rules_of s)) None
   unfolding text_rules text_used rules_of
   of_text = rw (text_cut s q, p) at h
 
-  pub rules_told : {n : ℕ} → answer ≡ Rules n → (text_fine (text_used s) (text_part s) ≡ true) × (n ≡ rules_of s)
+  pub rules_told : {n : ℕ} → answer ≡ Some n → (text_fine (text_used s) (text_part s) ≡ true) × (n ≡ rules_of s)
   rules_told {n} e = by (text_fine (text_used s) (text_part s)) (sym e ∙ of_text)
     where
-      by : (fine : Bool) → Rules n ≡ cond fine (Rules (rules_of s)) BadText → (fine ≡ true) × (n ≡ rules_of s)
+      by : (fine : Bool) → Some n ≡ cond fine (Some (rules_of s)) None → (fine ≡ true) × (n ≡ rules_of s)
       by true k = let same : n ≡ rules_of s = cc in (refl, same)
       by false k = let z : ◌≡◌ {A = ℕ} 0 1 = cc in absurd (omega arith)
 
-  pub text_told : answer ≡ BadText → text_fine (text_used s) (text_part s) ≡ false
+  pub text_told : answer ≡ None → text_fine (text_used s) (text_part s) ≡ false
   text_told e = by (text_fine (text_used s) (text_part s)) (sym e ∙ of_text)
     where
-      by : (fine : Bool) → BadText ≡ cond fine (Rules (rules_of s)) BadText → fine ≡ false
+      by : (fine : Bool) → None ≡ cond fine (Some (rules_of s)) None → fine ≡ false
       by true k = let z : ◌≡◌ {A = ℕ} 0 1 = cc in absurd (omega arith)
       by false k = refl
 
 pub filters_told : {answer : Bool} {bound used from to : ℕ} (s : List ℕ) → bound ≡ rules_of s → used ≡ number (drop 10 s) → from ≡ filters_at (counts s)
-    → to ≡ eqs_at (counts s) → answer ≡ table_fine true bound used (take (to - from) (drop from s))
-    → answer ≡ table_fine true (rules_of s) (filters_used s) (filter_part s)
+    → to ≡ eqs_at (counts s) → answer ≡ table_fine filter_size (filter_fine bound) used (take (to - from) (drop from s))
+    → answer ≡ table_fine filter_size (filter_fine (rules_of s)) (filters_used s) (filter_part s)
 unfolding filters_used
 filters_told s b u p q h = rw (filter_cut s p q, b, u) at h
 
 pub eqs_told : {answer : Bool} {bound used from to : ℕ} (s : List ℕ) → bound ≡ rules_of s → used ≡ number (drop 12 s) → from ≡ eqs_at (counts s)
-    → to ≡ notes_at (counts s) → answer ≡ table_fine false bound used (take (to - from) (drop from s))
-    → answer ≡ table_fine false (rules_of s) (eqs_used s) (eq_part s)
+    → to ≡ notes_at (counts s) → answer ≡ table_fine eq_size (numbered_fine bound) used (take (to - from) (drop from s))
+    → answer ≡ table_fine eq_size (numbered_fine (rules_of s)) (eqs_used s) (eq_part s)
 unfolding eqs_used
 eqs_told s b u p q h = rw (eq_cut s p q, b, u) at h
 
 pub notes_told : {answer : Bool} {used from : ℕ} (s : List ℕ) → length s ≡ store_length (counts s) → used ≡ number (drop 14 s) → from ≡ notes_at (counts s)
-    → answer ≡ table_fine false (suc session_limit) used (take (length s - from) (drop from s))
-    → answer ≡ table_fine false (suc session_limit) (notes_used s) (note_part s)
+    → answer ≡ table_fine note_size (numbered_fine (suc session_limit)) used (take (length s - from) (drop from s))
+    → answer ≡ table_fine note_size (numbered_fine (suc session_limit)) (notes_used s) (note_part s)
 unfolding notes_used
 notes_told s e u p h = rw (note_cut s e p, u) at h

@@ -4,7 +4,7 @@ use Prim.Native.Nat.{ℕ, suc, ◌*◌, ◌-◌, ◌≤◌}
 use mathlib.Core.Path.{◌≡◌, refl, sym, ap, ◌∙◌}
 use mathlib.Core.Bool.{Bool, true, false, ◌&&◌, cond}
 use mathlib.Core.List.{List, ◌++◌, append_assoc}
-use mathlib.Core.Option.{none, some}
+use Rattle.std.specs.Prelude.{None, Some}
 use native.Mathlib.Omega.{arith}
 use borrow.Author.Tests.{eqb-true, eq-eqb, leb-true, le-leb}
 use lib.Dec.{eqb, leb}
@@ -16,11 +16,10 @@ use Rattle.table.specs.Bytes.{zeros}
 use Rattle.table.proofs.ByteLaws.{zeros_replicate}
 use Rattle.table.proofs.JoinLaws.{Bytes, bytes_part}
 use Rattle.rule.specs.RuleText.{text_fault}
-use Rattle.store.specs.declared.ShapeRead.TheVariants.{LaidOut, Malformed}
 use Rattle.store.specs.Store.{filter_size, eq_size, note_size, session_limit, counts_fit, store_length, View}
 use Rattle.store.specs.Layout.{pad, filter_codec, numbered_codec, eq_codec, note_codec, header, layout, counts, text_used, filters_used, eqs_used, notes_used, filters_at, eqs_at, notes_at, text_part, filter_part, eq_part, note_part, read_layout}
 use Rattle.store.specs.View.{faultless, rules, bad_filter, bad_eq, bad_note, well_formed, view}
-use Rattle.store.specs.Check.{text_fine, row_fine, row_size, table_fine, rules_of, laid_out, shape_of, is_there}
+use Rattle.store.specs.Check.{text_fine, filter_fine, numbered_fine, table_fine, rules_of, laid_out, shape_of}
 use Rattle.store.proofs.LayoutLaws.{filter_rows_lem, eq_rows_lem, note_rows_lem, pad-length, pad-take, pad-drop, filter_area, eq_area, note_area, counts_back, text_used_lem, filters_used_lem, eqs_used_lem, notes_used_lem, layout-length, text_part_lem, filter_part_lem, eq_part_lem, note_part_lem, read_layout_lem, well_formed_parts, well_formed_made, openable_parts, openable_made, well_formed-fits}
 use Rattle.store.proofs.FineLaws.{pad_again, stretch, u16_at, eq_tested, note_tested, filter_tested, table_fine_lem, Held, table_held}
 
@@ -43,16 +42,16 @@ module _ (v : View) (e : well_formed v ≡ true) where
   unfolding rules_of
   rules_back = rw (text_used_lem v, text_part_lem v (well_formed-fits v e), pad-take v.counts.bytes v.text)
 
-  filters_fine : table_fine true (rules v.text) (length v.filters) (filter_area v) ≡ true
-  unfolding table_fine row_fine row_size filter_codec
+  filters_fine : table_fine filter_size (filter_fine (rules v.text)) (length v.filters) (filter_area v) ≡ true
+  unfolding filter_codec
   filters_fine = table_fine_lem filter_rows_lem (filter_tested v.text) _ _ (well_formed_parts v e).filters
 
-  eqs_fine : table_fine false (rules v.text) (length v.eqs) (eq_area v) ≡ true
-  unfolding table_fine row_fine row_size numbered_codec
+  eqs_fine : table_fine eq_size (numbered_fine (rules v.text)) (length v.eqs) (eq_area v) ≡ true
+  unfolding numbered_codec
   eqs_fine = table_fine_lem eq_rows_lem (eq_tested v.text) _ _ (well_formed_parts v e).eqs
 
-  notes_fine : table_fine false (suc session_limit) (length v.notes) (note_area v) ≡ true
-  unfolding table_fine row_fine row_size numbered_codec
+  notes_fine : table_fine note_size (numbered_fine (suc session_limit)) (length v.notes) (note_area v) ≡ true
+  unfolding numbered_codec
   notes_fine = table_fine_lem note_rows_lem note_tested _ _ (well_formed_parts v e).notes
 
   pub layout-laid_out : laid_out (layout v) ≡ true
@@ -111,9 +110,9 @@ pub record Laid (s : List ℕ) : Type 0 where
   pub fits : counts_fit (counts s) ≡ true
   pub size : length s ≡ store_length (counts s)
   pub text : text_fine (text_used s) (text_part s) ≡ true
-  pub filters : table_fine true (rules_of s) (filters_used s) (filter_part s) ≡ true
-  pub eqs : table_fine false (rules_of s) (eqs_used s) (eq_part s) ≡ true
-  pub notes : table_fine false (suc session_limit) (notes_used s) (note_part s) ≡ true
+  pub filters : table_fine filter_size (filter_fine (rules_of s)) (filters_used s) (filter_part s) ≡ true
+  pub eqs : table_fine eq_size (numbered_fine (rules_of s)) (eqs_used s) (eq_part s) ≡ true
+  pub notes : table_fine note_size (numbered_fine (suc session_limit)) (notes_used s) (note_part s) ≡ true
 
 pub laid : (s : List ℕ) → laid_out s ≡ true → Laid s
 unfolding laid_out
@@ -121,8 +120,8 @@ laid s e =
     let a = and_split (counts_fit (counts s)) _ e in
     let b = and_split (eqb (length s) (store_length (counts s))) _ a.1 in
     let c = and_split (text_fine (text_used s) (text_part s)) _ b.1 in
-    let d = and_split (table_fine true (rules_of s) (filters_used s) (filter_part s)) _ c.1 in
-    let f = and_split (table_fine false (rules_of s) (eqs_used s) (eq_part s)) _ d.1 in
+    let d = and_split (table_fine filter_size (filter_fine (rules_of s)) (filters_used s) (filter_part s)) _ c.1 in
+    let f = and_split (table_fine eq_size (numbered_fine (rules_of s)) (eqs_used s) (eq_part s)) _ d.1 in
     record { fits = a.0; size = eqb-true _ _ b.0; text = c.0; filters = d.0; eqs = f.0; notes = f.1 }
 
 -- the parts follow one another, from the header on to the end
@@ -178,19 +177,19 @@ module _ (s : List ℕ) (y : Bytes s) (e : laid_out s ≡ true) where
 
   -- tables
   filters_held : Held filter_rows_lem filter_codec (bad_filter (read_layout s).text) (counts s).filters (filters_used s) (filter_part s)
-  unfolding filter_part read_layout rules_of table_fine row_fine row_size filter_codec
+  unfolding filter_part read_layout rules_of filter_codec
   filters_held =
       table_held filter_rows_lem (filter_tested (read_layout s).text) (counts s).filters (filters_used s) (filter_part s)
       (omega arith) (filter_length s checked.size) (bytes_part (filters_at (counts s)) ((counts s).filters * filter_size) s y) checked.filters
 
   eqs_held : Held eq_rows_lem eq_codec (bad_eq (read_layout s).text) (counts s).eqs (eqs_used s) (eq_part s)
-  unfolding eq_part read_layout rules_of table_fine row_fine row_size numbered_codec
+  unfolding eq_part read_layout rules_of numbered_codec
   eqs_held =
       table_held eq_rows_lem (eq_tested (read_layout s).text) (counts s).eqs (eqs_used s) (eq_part s)
       (omega arith) (eq_length s checked.size) (bytes_part (eqs_at (counts s)) ((counts s).eqs * eq_size) s y) checked.eqs
 
   notes_held : Held note_rows_lem note_codec bad_note (counts s).notes (notes_used s) (note_part s)
-  unfolding note_part table_fine row_fine row_size numbered_codec
+  unfolding note_part numbered_codec
   notes_held =
       table_held note_rows_lem note_tested (counts s).notes (notes_used s) (note_part s)
       (omega arith) (note_length s checked.size) (bytes_part (notes_at (counts s)) ((counts s).notes * note_size) s y) checked.notes
@@ -229,38 +228,30 @@ view_laid_out s y =
     (λ e. rw (read_well_formed s y e, layout_again s y e) (same_itself s))
 
 -- what a store means, and that it means nothing
-pub view_read : (s : List ℕ) → Bytes s → laid_out s ≡ true → view s ≡ some (read_layout s)
+pub view_read : (s : List ℕ) → Bytes s → laid_out s ≡ true → view s ≡ Some (read_layout s)
 unfolding view
 view_read s y e = rw (view_laid_out s y, e)
 
-pub view-none : (s : List ℕ) → Bytes s → laid_out s ≡ false → view s ≡ none
+pub view-none : (s : List ℕ) → Bytes s → laid_out s ≡ false → view s ≡ None
 unfolding view
 view-none s y e = rw (view_laid_out s y, e)
 
-pub there_laid_out : (s : List ℕ) → Bytes s → is_there (view s) ≡ laid_out s
-unfolding is_there
-there_laid_out s y = at (laid_out s) refl
-  where
-    at : (b : Bool) → laid_out s ≡ b → is_there (view s) ≡ b
-    at true e = ap is_there (view_read s y e)
-    at false e = ap is_there (view-none s y e)
-
 pub shape_laid_out : (s : List ℕ) → Bytes s → laid_out s ≡ true
-    → shape_of (view s) ≡ LaidOut (record { counts = counts s; text = text_used s; filters = filters_used s; eqs = eqs_used s; notes = notes_used s })
+    → shape_of (view s) ≡ Some (record { counts = counts s; text = text_used s; filters = filters_used s; eqs = eqs_used s; notes = notes_used s })
 unfolding shape_of read_layout
 shape_laid_out s y e =
     rw (view_read s y e, text_count s y e, (filters_held s y e).count, (eqs_held s y e).count, (notes_held s y e).count)
 
-pub shape_malformed : (s : List ℕ) → Bytes s → laid_out s ≡ false → shape_of (view s) ≡ Malformed
+pub shape_malformed : (s : List ℕ) → Bytes s → laid_out s ≡ false → shape_of (view s) ≡ None
 unfolding shape_of
 shape_malformed s y e = rw (view-none s y e)
 
 -- what is read is well-formed, and is laid out as it was
-view_reads : (s : List ℕ) (v : View) → view s ≡ some v → (well_formed v ≡ true) × (layout v ≡ s)
+view_reads : (s : List ℕ) (v : View) → view s ≡ Some v → (well_formed v ≡ true) × (layout v ≡ s)
 unfolding view
 view_reads s v = at (well_formed (read_layout s) && same (layout (read_layout s)) s) refl
   where
-    at : (b : Bool) → (well_formed (read_layout s) && same (layout (read_layout s)) s) ≡ b → cond b (some (read_layout s)) none ≡ some v
+    at : (b : Bool) → (well_formed (read_layout s) && same (layout (read_layout s)) s) ≡ b → cond b (Some (read_layout s)) None ≡ Some v
         → (well_formed v ≡ true) × (layout v ≡ s)
     at true e h =
         let r : read_layout s ≡ v = cc in
@@ -269,12 +260,12 @@ view_reads s v = at (well_formed (read_layout s) && same (layout (read_layout s)
         rw r at both
     at false e h = let z : ◌≡◌ {A = ℕ} 0 1 = cc in absurd (omega arith)
 
-pub view-well_formed : (s : List ℕ) (v : View) → view s ≡ some v → well_formed v ≡ true
+pub view-well_formed : (s : List ℕ) (v : View) → view s ≡ Some v → well_formed v ≡ true
 view-well_formed s v h = (view_reads s v h).0
 
-pub view-layout : (s : List ℕ) (v : View) → view s ≡ some v → layout v ≡ s
+pub view-layout : (s : List ℕ) (v : View) → view s ≡ Some v → layout v ≡ s
 view-layout s v h = (view_reads s v h).1
 
-pub view_of_layout : (v : View) → well_formed v ≡ true → view (layout v) ≡ some v
+pub view_of_layout : (v : View) → well_formed v ≡ true → view (layout v) ≡ Some v
 unfolding view
 view_of_layout v e = rw (read_layout_lem v (well_formed-fits v e), e, same_itself (layout v))

@@ -1,12 +1,10 @@
 -- Opening a store: document 01, Store and Refusals by operation, Open.
-use Rattle.std.specs.Prelude.{ℕ, ◌&&◌, not, cond, List, [], eqb, ltb, length}
-use Rattle.std.proofs.Math.Option.{Option, none, some}
-use Rattle.rule.specs.RuleText.{Fault, text_fault}
+use Rattle.std.specs.Prelude.{ℕ, ◌&&◌, not, cond, List, [], eqb, ltb, length, Option, None, Some, Result, Ok, Err}
+use Rattle.rule.specs.RuleText.{text_fault}
+use Rattle.rule.specs.declared.Fault.{Fault}
 use Rattle.rule.specs.Refusals.{number}
 use Rattle.rule.specs.declared.Refusal.TheVariants.{TooLong, Counts as CountsCause}
 use Rattle.store.specs.declared.Counts.{Counts}
-use Rattle.store.specs.declared.Opened.{Opened}
-use Rattle.store.specs.declared.Opened.TheVariants.{Done, Refused}
 use Rattle.store.specs.Store.{counts_fit, store_length, View}
 use Rattle.store.specs.Layout.{layout}
 
@@ -14,8 +12,8 @@ use Rattle.store.specs.Layout.{layout}
 -- faulty line". Number 4 has no line: 0
 unfoldable pub open_fault : Counts → List ℕ → ℕ → Option Fault
 open_fault c text room =
-    cond (not (counts_fit c && eqb room (store_length c))) (some (record { cause = CountsCause; line = 0 }))
-    (cond (ltb c.bytes (length text)) (some (record { cause = TooLong; line = 0 })) (text_fault text))
+    cond (not (counts_fit c && eqb room (store_length c))) (Some (record { cause = CountsCause; line = 0 }))
+    (cond (ltb c.bytes (length text)) (Some (record { cause = TooLong; line = 0 })) (text_fault text))
 
 -- "Opening leaves no used row"
 unfoldable pub opened : Counts → List ℕ → View
@@ -23,13 +21,13 @@ opened c text = record { counts = c; text = text; filters = []; eqs = []; notes 
 
 -- the store afterwards; "all lent memory is unchanged" where it is refused
 unfoldable pub after_open : Counts → List ℕ → List ℕ → List ℕ
-after_open c text s = elim (open_fault c text (length s)) [ none ↦ layout (opened c text) | some f ↦ s ]
+after_open c text s = elim (open_fault c text (length s)) [ None ↦ layout (opened c text) | Some f ↦ s ]
 
 -- the number and the line of a refusal
 unfoldable pub told : Fault → ℕ × ℕ
 told f = (number f.cause, f.line)
 
 -- each answer's number and line: none where the store is open
-unfoldable pub says : Opened → Option (ℕ × ℕ)
-says Done = none
-says (Refused cause line) = some (number cause, line)
+unfoldable pub says : Result (Unit {0}) Fault → Option (ℕ × ℕ)
+says (Ok tt) = None
+says (Err f) = Some (number f.cause, f.line)

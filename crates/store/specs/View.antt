@@ -1,20 +1,20 @@
 -- What a store means, or that it is not as laid out: document 01, Refusals by operation, "3 store not as laid out: counts, padding,
 -- lengths, rule text, row rule numbers, note sessions over 255, filter validity, equal rows".
-use Rattle.std.specs.Prelude.{ℕ, Bool, true, false, ◌&&◌, ◌||◌, not, cond, List, leb, ltb, length}
-use Rattle.std.proofs.Math.Option.{Option, none, some}
+use Rattle.std.specs.Prelude.{ℕ, Bool, true, false, ◌&&◌, ◌||◌, not, cond, List, leb, ltb, length, Option, None, Some}
 use Rattle.text.specs.Text.{same}
 use Rattle.topic.specs.Topic.{valid_filter}
 use Rattle.json_text.specs.Lines.{lines}
 use Rattle.table.specs.Table.{sound}
 use Rattle.rule.specs.Limits.{text_limit, id_limit}
-use Rattle.rule.specs.RuleText.{Fault, text_fault}
+use Rattle.rule.specs.RuleText.{text_fault}
+use Rattle.rule.specs.declared.Fault.{Fault}
 use Rattle.store.specs.declared.Counts.{Counts}
 use Rattle.store.specs.Store.{session_limit, over, counts_fit, FilterRow, EqRow, NoteRow, View, ownerless, same_filter, same_eq, same_note}
 use Rattle.store.specs.Layout.{layout, read_layout}
 
 unfoldable pub faultless : Option Fault → Bool
-faultless none = true
-faultless (some f) = false
+faultless None = true
+faultless (Some f) = false
 
 -- counts and rule text as Open takes them: "counts, .. rule text" (all of Open's tests; out of range is 4 there and 3 here)
 unfoldable pub openable : Counts → List ℕ → Bool
@@ -46,4 +46,4 @@ well_formed v =
 -- used rows, padding and unused rows show where it is laid out again: these bytes have to come back. That every well-formed view is
 -- meant by its layout is a law (`view_of_layout`, proofs/ViewLaws.antt)
 unfoldable pub view : List ℕ → Option View
-view s = cond (well_formed (read_layout s) && same (layout (read_layout s)) s) (some (read_layout s)) none
+view s = cond (well_formed (read_layout s) && same (layout (read_layout s)) s) (Some (read_layout s)) None

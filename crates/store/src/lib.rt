@@ -11,13 +11,11 @@ ghost use Rattle.store.specs.Store as spec;
 ghost use Rattle.store.specs.Layout as layout;
 ghost use Rattle.store.specs.Check as check_spec;
 
-use rule::Refusal;
-
 // Session numbers are below this.
 pub const SESSIONS: usize = 256;
 
 // "R, F, E, N": the bytes for the rule text, and the rows that each table has room for.
-#[derive(Clone, Copy)]
+#[derive(Clone, Copy, Debug, PartialEq, Eq)]
 pub struct Counts {
     pub bytes: u16,
     pub filters: u16,
@@ -25,14 +23,8 @@ pub struct Counts {
     pub notes: u16,
 }
 
-#[derive(Clone, Copy)]
-pub enum CountsRead {
-    Counts(Counts),
-    OutOfRange,
-}
-
 // What the header of a store as laid out says: its counts, the length of its rule text, and the rows used of each table.
-#[derive(Clone, Copy)]
+#[derive(Clone, Copy, Debug, PartialEq, Eq)]
 pub struct Shape {
     pub counts: Counts,
     pub text: usize,
@@ -41,24 +33,12 @@ pub struct Shape {
     pub notes: usize,
 }
 
-#[derive(Clone, Copy)]
-pub enum ShapeRead {
-    LaidOut(Shape),
-    Malformed,
-}
-
-// The rule text of a store as laid out: the number of its rules.
-#[derive(Clone, Copy)]
-pub enum RulesRead {
-    Rules(usize),
-    Malformed,
-}
-
-// What `open` answers: done, or a refusal with its line (0 none, 257 too many lines).
-#[derive(Clone, Copy)]
-pub enum Opened {
-    Done,
-    Refused(Refusal, usize),
+// Is a count from 1 to `most`?
+#[tactic(auto, unfolding(crate::specs::Store::one_to))]
+fn one_to(n: u64, most: u64) -> bool
+    ensures { result ≡ spec.one_to most n }
+{
+    1 <= n && n <= most
 }
 
 impl Counts {
@@ -78,30 +58,27 @@ impl Counts {
 
     pub const ROWS: u64 = 4096;
 
-    pub fn new(bytes: u64, filters: u64, eqs: u64, notes: u64) -> CountsRead
+    pub fn new(bytes: u64, filters: u64, eqs: u64, notes: u64) -> Option<Counts>
         ensures { result ≡ check_spec.counts_read (record { bytes = bytes; filters = filters; eqs = eqs; notes = notes }) }
     {
-        if bytes == 0 || Self::BYTES < bytes {
-            return CountsRead::OutOfRange;
+        if one_to(bytes, Self::BYTES)
+            && one_to(filters, Self::ROWS)
+            && one_to(eqs, Self::ROWS)
+            && one_to(notes, Self::ROWS)
+        {
+            Some(Counts {
+                bytes: bytes as u16,
+                filters: filters as u16,
+                eqs: eqs as u16,
+                notes: notes as u16,
+            })
+        } else {
+            None
         }
-        if filters == 0 || Self::ROWS < filters {
-            return CountsRead::OutOfRange;
-        }
-        if eqs == 0 || Self::ROWS < eqs {
-            return CountsRead::OutOfRange;
-        }
-        if notes == 0 || Self::ROWS < notes {
-            return CountsRead::OutOfRange;
-        }
-        CountsRead::Counts(Counts {
-            bytes: bytes as u16,
-            filters: filters as u16,
-            eqs: eqs as u16,
-            notes: notes as u16,
-        })
     }
 
     // "The length of a store follows from its four counts: 16 + R + 326F + 260E + 260N."
+    #[tactic(auto, unfolding(crate::specs::Store::store_length))]
     pub fn length(self) -> usize
         ensures { result ≡ spec.store_length self }
     {
@@ -113,18 +90,21 @@ impl Counts {
     }
 
     // Where the tables begin.
+    #[tactic(auto, unfolding(crate::specs::Layout::filters_at))]
     pub fn filters_at(self) -> usize
         ensures { result ≡ layout.filters_at self }
     {
         Self::HEADER + self.bytes as usize
     }
 
+    #[tactic(auto, unfolding(crate::specs::Layout::filters_at, crate::specs::Layout::eqs_at))]
     pub fn eqs_at(self) -> usize
         ensures { result ≡ layout.eqs_at self }
     {
         self.filters_at() + self.filters as usize * Self::FILTER
     }
 
+    #[tactic(auto, unfolding(crate::specs::Layout::filters_at, crate::specs::Layout::eqs_at, crate::specs::Layout::notes_at))]
     pub fn notes_at(self) -> usize
         ensures { result ≡ layout.notes_at self }
     {

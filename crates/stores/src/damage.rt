@@ -301,7 +301,7 @@ fn damages(rt: &impl Print, s: &mut [u8; LENGTH]) {
 // Makes the store, and changes it.
 pub(crate) fn damage(rt: &impl Print) {
     let mut store = [255; LENGTH];
-    open(&mut store, 64, 3, 3, 3, &RULES);
+    let _ = open(&mut store, 64, 3, 3, 3, &RULES);
     fill(&mut store);
     whole(rt, &store);
     say(rt, b"Changes that are allowed\n");

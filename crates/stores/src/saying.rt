@@ -1,6 +1,5 @@
 // What is written of an open: the question, the answer, and the state of the store then.
-use rule::refusal_number;
-use store::Opened;
+use rule::{Fault, refusal_number};
 use store::check::check;
 use store::opening::open;
 use text::front;
@@ -25,12 +24,12 @@ fn answer(rt: &impl Print, lent: &mut [u8], r: u64, f: u64, e: u64, n: u64, text
     say_number(rt, b" in ", lent.len() as u64);
     say_number(rt, b" bytes, text of ", text.len() as u64);
     match open(lent, r, f, e, n, text) {
-        Opened::Done => {
+        Ok(()) => {
             say(rt, b": done");
         }
-        Opened::Refused(cause, line) => {
-            say_number(rt, b": error ", refusal_number(cause) as u64);
-            say_number(rt, b" line ", line as u64);
+        Err(fault) => {
+            say_number(rt, b": error ", refusal_number(fault.cause) as u64);
+            say_number(rt, b" line ", fault.line as u64);
         }
     }
 }

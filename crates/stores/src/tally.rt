@@ -4,7 +4,7 @@ ghost use Rattle.stores.specs.Tally as spec;
 
 use crate::saying::{say, say_number};
 
-#[derive(Clone, Copy)]
+#[derive(Clone, Copy, Debug, PartialEq, Eq)]
 pub struct Tally {
     pub right: u64,
     pub all: u64,

@@ -1,15 +1,13 @@
 // The program `decide`: rule lines, an empty line, event lines (document 01, Marked examples).
-ghost use Rattle.std.specs.Prelude.{◌≤◌, length};
-
 use crate::Run;
+use crate::reading::{Program, read_all};
 use crate::writing::{put, say, start, written};
 use lines::answer::answer;
 use lines::input::{take_byte, take_rule_byte};
 use lines::output::{malformed, refused_at};
 use lines::{RulesTaken, Taken};
-use rule::Refusal;
+use rule::{Fault, Refusal};
 use std::io::{Eprint, Read, Write};
-use store::Opened;
 use store::opening::open;
 use text::front;
 
@@ -27,177 +25,113 @@ const STORE: usize = 47888;
 // A line, and the rules, have at most 2,048 bytes.
 const BUFFER: usize = 2048;
 
-// The run over, with one line of output: the rules are refused.
-fn refused<W: Write>(
-    mut run: Run,
-    output: &mut W,
-    out: &mut [u8],
-    cause: Refusal,
-    line: usize,
-) -> Run {
-    run.waiting = put(output, out, run.waiting, 0, refused_at(cause, line));
-    run.more = false;
-    run
+// The store, the rules or the line that has begun, and the output that waits.
+#[derive(Drop)]
+struct Deciding {
+    store: [u8; STORE],
+    buffer: [u8; BUFFER],
+    out: [u8; 4096],
 }
 
-// The rules are whole: the store is opened for them.
-fn open_for<W: Write>(
-    mut run: Run,
-    output: &mut W,
-    store: &mut [u8],
-    text: &[u8],
-    out: &mut [u8],
-) -> Run {
-    match open(store, R, F, E, N, text) {
-        Opened::Refused(cause, line) => refused(run, output, out, cause, line),
-        Opened::Done => {
-            run.opened = true;
-            run
+impl Deciding {
+    // The run over, with one line of output: the rules are refused.
+    fn refused<W: Write>(&mut self, run: Run, output: &mut W, fault: Fault) -> Run {
+        let said = refused_at(fault.cause, fault.line);
+        Run {
+            waiting: put(output, &mut self.out, run.waiting, 0, said),
+            more: false,
+            ..run
         }
     }
-}
 
-// One byte of the rules.
-fn take_in_rules<W: Write>(
-    mut run: Run,
-    output: &mut W,
-    store: &mut [u8],
-    buffer: &mut [u8],
-    out: &mut [u8],
-    b: u8,
-) -> Run {
-    let rules = run.rules;
-    match take_rule_byte(rules, buffer, b) {
-        RulesTaken::Part(more) => {
-            run.rules = more;
-            run
+    // The rules are whole: the store is opened for them.
+    fn open<W: Write>(&mut self, run: Run, output: &mut W, length: usize) -> Run {
+        match open(&mut self.store, R, F, E, N, front(&self.buffer, length)) {
+            Err(fault) => self.refused(run, output, fault),
+            Ok(()) => Run {
+                opened: true,
+                ..run
+            },
         }
-        RulesTaken::Whole(n) => open_for(run, output, store, front(buffer, n), out),
-        RulesTaken::TooLong => refused(run, output, out, Refusal::TooLong, 0),
     }
-}
 
-// One byte of the lines behind them.
-fn take_in_lines<W: Write>(
-    mut run: Run,
-    output: &mut W,
-    store: &mut [u8],
-    buffer: &mut [u8],
-    out: &mut [u8],
-    b: u8,
-) -> Run {
-    let begun = run.begun;
-    match take_byte(begun, buffer, b) {
-        Taken::Part(more) => {
-            run.begun = more;
-            run
+    // One byte of the rules.
+    fn take_in_rules<W: Write>(&mut self, run: Run, output: &mut W, b: u8) -> Run {
+        match take_rule_byte(run.rules, &mut self.buffer, b) {
+            RulesTaken::Part(rules) => Run { rules, ..run },
+            RulesTaken::Whole(n) => self.open(run, output, n),
+            RulesTaken::TooLong => self.refused(
+                run,
+                output,
+                Fault {
+                    cause: Refusal::TooLong,
+                    line: 0,
+                },
+            ),
         }
-        Taken::Line(n) => say(run, output, out, answer(store, front(buffer, n))),
-        Taken::LongLine => say(run, output, out, malformed()),
+    }
+
+    // One byte of the lines behind them.
+    fn take_in_lines<W: Write>(&mut self, run: Run, output: &mut W, b: u8) -> Run {
+        match take_byte(run.begun, &mut self.buffer, b) {
+            Taken::Part(begun) => Run { begun, ..run },
+            Taken::Line(n) => self.answer(run, output, n),
+            Taken::LongLine => say(run, output, &mut self.out, malformed()),
+        }
+    }
+
+    // A line of this length is whole.
+    fn answer<W: Write>(&mut self, run: Run, output: &mut W, length: usize) -> Run {
+        let said = answer(&mut self.store, front(&self.buffer, length));
+        say(run, output, &mut self.out, said)
     }
 }
 
-fn take<W: Write>(
-    run: Run,
-    output: &mut W,
-    store: &mut [u8],
-    buffer: &mut [u8],
-    out: &mut [u8],
-    b: u8,
-) -> Run {
-    if !run.more {
-        return run;
+impl<W: Write> Program<W> for Deciding {
+    fn take(&mut self, run: Run, output: &mut W, b: u8) -> Run {
+        if !run.more {
+            return run;
+        }
+        if run.opened {
+            return self.take_in_lines(run, output, b);
+        }
+        self.take_in_rules(run, output, b)
     }
-    if run.opened {
-        return take_in_lines(run, output, store, buffer, out, b);
-    }
-    take_in_rules(run, output, store, buffer, out, b)
-}
 
-// A piece of the input.
-fn take_piece<W: Write>(
-    run: Run,
-    output: &mut W,
-    store: &mut [u8],
-    buffer: &mut [u8],
-    out: &mut [u8],
-    piece: &[u8],
-) -> Run
-    requires { length piece.now ≤ 4096 }
-{
-    let mut run = run;
-    let mut i = 0;
-    while i < piece.len() {
-        run = take(run, output, store, buffer, out, piece[i]);
-        i += 1;
+    fn finish(&mut self, run: Run, output: &mut W) -> Run {
+        if !run.more {
+            return run;
+        }
+        if !run.opened {
+            return self.open(run, output, run.rules.length);
+        }
+        if run.begun.long {
+            return say(run, output, &mut self.out, malformed());
+        }
+        if run.begun.length == 0 {
+            return run;
+        }
+        self.answer(run, output, run.begun.length)
     }
-    run
-}
 
-// The end of the input, where the last line may lack its LF.
-fn finish<W: Write>(
-    run: Run,
-    output: &mut W,
-    store: &mut [u8],
-    buffer: &[u8],
-    out: &mut [u8],
-) -> Run {
-    if !run.more {
-        return run;
+    fn write(&self, run: Run, output: &mut W) -> Run {
+        written(run, output, &self.out)
     }
-    if !run.opened {
-        let rules = run.rules;
-        return open_for(run, output, store, front(buffer, rules.length), out);
-    }
-    let begun = run.begun;
-    if begun.long {
-        return say(run, output, out, malformed());
-    }
-    if begun.length == 0 {
-        return run;
-    }
-    say(run, output, out, answer(store, front(buffer, begun.length)))
-}
-
-// Reads once, and writes out what came of it. A read that fails ends the input where it stands.
-fn read_some<E: Eprint, R: Read, W: Write>(
-    rt: &E,
-    mut run: Run,
-    input: &mut R,
-    output: &mut W,
-    store: &mut [u8],
-    buffer: &mut [u8],
-    out: &mut [u8],
-) -> Run {
-    let mut piece = [0u8; 4096];
-    let Ok(n) = input.read(&mut piece) else {
-        let _ = rt.eprintln("decide: cannot read");
-        run.more = false;
-        return run;
-    };
-    if n == 0 {
-        let mut last = written(finish(run, output, store, buffer, out), output, out);
-        last.more = false;
-        return last;
-    }
-    written(
-        take_piece(run, output, store, buffer, out, &piece[..n]),
-        output,
-        out,
-    )
 }
 
 // Answers every line of the input.
-//
-// A proved loop has to end, and nothing says that the input does. So the loop counts its turns down, from a number that no run uses up.
 pub fn decide<E: Eprint, R: Read, W: Write>(rt: &E, input: &mut R, output: &mut W) {
-    let mut store = [0u8; STORE];
-    let mut buffer = [0u8; BUFFER];
-    let mut out = [0u8; 4096];
-    let mut run = start(true);
-    let mut turns = u64::MAX;
-    while turns > 0 && run.more {
-        run = read_some(rt, run, input, output, &mut store, &mut buffer, &mut out);
-        turns -= 1;
-    }
+    let mut deciding = Deciding {
+        store: [0; STORE],
+        buffer: [0; BUFFER],
+        out: [0; 4096],
+    };
+    read_all(
+        rt,
+        "decide: cannot read",
+        &mut deciding,
+        start(true),
+        input,
+        output,
+    );
 }

@@ -3,13 +3,14 @@
 
 pub mod clients;
 pub mod deciding;
+mod reading;
 mod writing;
 
 use lines::{Begun, Rules};
 
 // What is known between two bytes of the input: the first line, where the program has one, the rules and the line that has begun, the number of
 // the last line that was answered, and how many bytes of output wait in their buffer.
-#[derive(Clone, Copy)]
+#[derive(Clone, Copy, Debug, PartialEq, Eq)]
 pub struct Run {
     // Is the first line whole, and how long is it?
     pub headed: bool,

@@ -4,7 +4,7 @@ ghost use Rattle.streams.specs.Writing as spec;
 
 use crate::Run;
 use lines::output::put_line;
-use lines::{Begun, Put, Rules, Said};
+use lines::{Begun, Rules, Said};
 use std::io::Write;
 use text::front;
 
@@ -21,14 +21,11 @@ pub(crate) fn put<W: Write>(
     number: u64,
     said: Said,
 ) -> usize {
-    if let Put::End(end) = put_line(number, said, out, waiting) {
+    if let Some(end) = put_line(number, said, out, waiting) {
         return end;
     }
     flush(output, out, waiting);
-    match put_line(number, said, out, 0) {
-        Put::End(end) => end,
-        Put::NoRoom => 0,
-    }
+    put_line(number, said, out, 0).unwrap_or(0)
 }
 
 // No line has begun.
@@ -61,17 +58,18 @@ pub fn start(headed: bool) -> Run
 }
 
 // What is said of the next line.
-pub(crate) fn say<W: Write>(mut run: Run, output: &mut W, out: &mut [u8], said: Said) -> Run {
-    run.number = std::num::wrapping_add_u64(run.number, 1);
-    run.waiting = put(output, out, run.waiting, run.number, said);
-    let next = no_line();
-    run.begun = next;
-    run
+pub(crate) fn say<W: Write>(run: Run, output: &mut W, out: &mut [u8], said: Said) -> Run {
+    let number = std::num::wrapping_add_u64(run.number, 1);
+    Run {
+        number,
+        waiting: put(output, out, run.waiting, number, said),
+        begun: no_line(),
+        ..run
+    }
 }
 
 // Writes out what waits.
-pub(crate) fn written<W: Write>(mut run: Run, output: &mut W, out: &[u8]) -> Run {
+pub(crate) fn written<W: Write>(run: Run, output: &mut W, out: &[u8]) -> Run {
     flush(output, out, run.waiting);
-    run.waiting = 0;
-    run
+    Run { waiting: 0, ..run }
 }

@@ -1,31 +1,26 @@
 -- Laws of `specs/Bytes.antt`: the step of each loop over plain lists and indices, and what numbers and zero bytes mean.
 -- Assumes nothing.
-use Prim.Native.Nat.{ℕ, zero, suc, ◌+◌, ◌-◌, ◌*◌, ◌/◌, ◌%◌, ◌≤◌, ◌<◌}
+use Prim.Native.Nat.{ℕ, zero, suc, ◌+◌, ◌-◌, ◌*◌, ◌/◌, ◌%◌, ◌≤◌, ◌<◌, min}
 use mathlib.Core.Path.{◌≡◌, refl, sym, ap, ◌∙◌}
-use mathlib.Core.Bool.{Bool, true, false, ◌&&◌, and-false, and_assoc}
-use mathlib.Core.List.{List, [], ◌∷◌, ◌++◌, append_assoc}
-use native.Mathlib.Nat.{add-zero, mul-zero, mul-lt-mul_of_pos_right, div-add-mod', le-div_iff_mul-le, div-lt_iff_lt-mul}
-use native.Mathlib.Numerals.{add-one}
+use mathlib.Core.Bool.{Bool, true, false, ◌&&◌, and-true, and-false, and_assoc}
+use mathlib.Core.List.{List, [], ◌∷◌, ◌++◌}
+use native.Mathlib.Nat.{mul-zero, le-div_iff_mul-le, div-lt_iff_lt-mul}
 use native.Mathlib.Omega.{arith}
 use borrow.Author.Tests.{eqb-true, le-leb, lt-leb, leb-true, leb-false}
 use lib.Dec.{eqb, leb}
-use lib.ListN.{length, take, drop, get_or, set, replicate, take-append-drop, length-drop, length-replicate, get_or-replicate, drop_of_length-le, get_or-eq_default}
-use lib.Seq.{paste, paste-zero, paste-suc, drop-paste, drop-cons, drop-drop, get_or-drop, take_all, sets-eq}
-use Rattle.text.specs.Text.{pasted}
-use Rattle.text.proofs.Laws.{and_split, pasted_fits}
-use Rattle.table.specs.Bytes.{u16, number, zeros, cleared, row_at, restored}
+use lib.ListN.{length, take, drop, get_or, replicate, take-append-drop, length-drop, drop_of_length-le, get_or-eq_default}
+use lib.Seq.{drop-drop, length-take-le}
+use borrow.Rule.Slice.PartMut.{put_mid}
+use Rattle.std.specs.Int.{to_le_bytes, from_le_bytes, w16}
+use Rattle.text.proofs.Laws.{and_split}
+use Rattle.table.specs.Bytes.{u16, number, zeros, cleared, row_at}
 
 -- ---- zero bytes
 
--- the step of the loop of `zero_part`, where `front` says it of the bytes before `i`, and its end
-pub zeros_step : (front : Bool) (s : List ℕ) (i : ℕ) → i < length s
-    → (front && eqb (get_or s i 0) 0 && zeros (drop (i + 1) s)) ≡ (front && zeros (drop i s))
+pub zeros-snoc : (s : List ℕ) (b : ℕ) → zeros (s ++ (b ∷ [])) ≡ (zeros s && eqb b 0)
 unfolding zeros
-zeros_step front s i h = rw (add-one, drop-cons s i 0) (and_assoc front (eqb (get_or s i 0) 0) _)
-
-pub zeros_end : (s : List ℕ) (i : ℕ) → length s ≤ i → zeros (drop i s) ≡ true
-unfolding zeros
-zeros_end s i h = rw (drop_of_length-le s h)
+zeros-snoc [] b = and-true (eqb b 0)
+zeros-snoc (a ∷ s) b = ap (λ (r : Bool). eqb a 0 && r) (zeros-snoc s b) ∙ sym (and_assoc (eqb a 0) (zeros s) (eqb b 0))
 
 -- a front and the rest
 pub zeros_split : (n : ℕ) (s : List ℕ) → zeros s ≡ (zeros (take n s) && zeros (drop n s))
@@ -81,83 +76,38 @@ pub cleared_before : (from to : ℕ) (s : List ℕ) → to < from → cleared fr
 unfolding cleared
 cleared_before from to s h = rw (lt-leb from to h)
 
--- the list as `clear` has it when it comes to `i`: at the start, after a step and at the end
-abbrev pub clearing : ℕ → ℕ → List ℕ → ℕ → List ℕ
-clearing from to s i = paste s from (replicate (to - from) 0) (i - from)
-
-pub clearing_none : (from to : ℕ) (s : List ℕ) → s ≡ clearing from to s from
-clearing_none from to s =
-    let none : from - from ≡ 0 = omega arith in
-    rw none (paste-zero s from (replicate (to - from) 0))
-
-pub clearing_more : (from to : ℕ) (s : List ℕ) (i : ℕ) → from ≤ i → i < to → to ≤ length s → set (clearing from to s i) i 0 ≡ clearing from to s (i + 1)
-clearing_more from to s i h k l =
-    let room = length-replicate {A = ℕ} (to - from) 0 in
-    let place : from + (i - from) ≡ i = omega arith in
-    let more : i + 1 - from ≡ suc (i - from) = omega arith in
-    let byte = get_or-replicate {A = ℕ} (to - from) (i - from) 0 0 (omega arith) in
-    let step = paste-suc s from (replicate (to - from) 0) (i - from) 0 (omega arith) (omega arith) in
-    rw more (ap (λ (k : ℕ). set (clearing from to s i) k 0) (sym place) ∙ rw byte at step)
-
-pub clearing_all : (from to : ℕ) (s : List ℕ) (i : ℕ) → to ≤ length s → i - from ≡ to - from → clearing from to s i ≡ cleared from to s
-clearing_all from to s i h e = at (leb from to) refl
-  where
-    at : (t : Bool) → leb from to ≡ t → clearing from to s i ≡ cleared from to s
-    at true q =
-        let k = leb-true from to q in
-        let place : from + (to - from) ≡ to = omega arith in
-        let all = take_all {A = ℕ} (to - from) (replicate (to - from) 0) (omega (arith, length-replicate {A = ℕ} (to - from) 0)) in
-        rw (cleared_fits from to s k h, e, place, all) (append_assoc (take from s) _ _)
-    at false q =
-        let k = leb-false from to q in
-        let none : i - from ≡ 0 = omega arith in
-        rw (cleared_before from to s k, none) (sym (paste-zero s from (replicate (to - from) 0)))
+-- the part written as zeros
+pub cleared_part : (from to : ℕ) (s : List ℕ) → from ≤ to → to ≤ length s → cleared from to s ≡ put_mid from (to - from) s (replicate (length (take (to - from) (drop from s))) 0)
+cleared_part from to s h k =
+    let place : from + (to - from) ≡ to = omega arith in
+    let left = length-drop from s in
+    rw (cleared_fits from to s h k, length-take-le (to - from) (drop from s) (omega arith), drop-drop (to - from) from s, place) refl
 
 -- ---- moving a row
-
--- what is read is still the byte that was there, as it lies behind what is written
-moved_byte : (s : List ℕ) (from to i : ℕ) → to ≤ from → from + i ≤ length s → get_or (paste s to (drop from s) i) (from + i) 0 ≡ get_or (drop from s) i 0
-moved_byte s from to i h k =
-    let left = length-drop from s in
-    let place : from + i ≡ to + i + (from - to) = omega arith in
-    let behind = drop-paste s to (drop from s) i (omega arith) (omega arith) in
-    rw (get_or-drop from s i 0, place, ← get_or-drop (to + i) (paste s to (drop from s) i) (from - to) 0, behind) (get_or-drop (to + i) s (from - to) 0)
 
 -- a row that is moved to where it is
 pub moved_here : (s : List ℕ) (at size : ℕ) → take at s ++ (take size (drop at s) ++ drop (at + size) s) ≡ s
 moved_here s at size = rw (← drop-drop size at s, take-append-drop size (drop at s)) (take-append-drop at s)
 
--- the step of the loop of `move_row`
-pub moved_more : (s : List ℕ) (from to i : ℕ) → to ≤ from → from + i < length s
-    → set (paste s to (drop from s) i) (to + i) (get_or (paste s to (drop from s) i) (from + i) 0) ≡ paste s to (drop from s) (i + 1)
-moved_more s from to i h k =
-    let left = length-drop from s in
-    rw (moved_byte s from to i h (omega arith), add-one i) (paste-suc s to (drop from s) i 0 (omega arith) (omega arith))
-
 -- ---- numbers
 
--- the number at a place, byte by byte; where both bytes are missing, and where the high one is
-pub number-drop : (s : List ℕ) (at : ℕ) → number (drop at s) ≡ get_or s (at + 1) 0 * 256 + get_or s at 0
-unfolding number
-number-drop s at = rw (get_or-drop at s 1 0, get_or-drop at s 0 0, add-zero at)
-
+-- where there are no bytes, and of a part, by how many it has
 pub number_missing : (s : List ℕ) (at : ℕ) → length s ≤ at → number (drop at s) ≡ 0
 unfolding number
 number_missing s at h = rw (drop_of_length-le s h)
 
-pub number_low : (s : List ℕ) (at : ℕ) → length s ≤ at + 1 → number (drop at s) ≡ get_or s at 0
-number_low s at h = number-drop s at ∙ rw (get_or-eq_default s 0 h) (omega arith)
+pub number_short : (s : List ℕ) → length s < 2 → number s ≡ get_or s 0 0
+unfolding number
+number_short s h = let high : get_or s 1 0 ≡ 0 = get_or-eq_default s 0 (omega arith) in rw high (omega arith)
 
--- what `u16` writes, `number` reads
-pub number-u16 : (n : ℕ) (rest : List ℕ) → number (u16 n ++ rest) ≡ n
-unfolding number u16
-number-u16 n rest = div-add-mod' n 256
+pub number_bytes : (s : List ℕ) → from_le_bytes w16 (get_or s 0 0 ∷ get_or s 1 0 ∷ []) ≡ number s
+unfolding number
+number_bytes s = omega arith
 
--- the two bytes of a number, stored one by one
-pub put_u16 : (s : List ℕ) (at n : ℕ) → at + 1 < length s → set (set s at (n % 256)) (at + 1) (n / 256) ≡ pasted at (u16 n) s
+-- as the library writes it
+pub u16_bytes : (n : ℕ) → n < 65536 → to_le_bytes w16 n ≡ u16 n
 unfolding u16
-put_u16 s at n h =
-    rw (pasted_fits at (u16 n) s (omega arith), add-one at) (sets-eq (u16 n) s at (omega arith) ∙ append_assoc (take at s) (u16 n) _)
+u16_bytes n h = let high : n / 256 % 256 ≡ n / 256 = omega arith in ap (λ (b : ℕ). n % 256 ∷ b ∷ []) high
 
 -- ---- rows
 
@@ -188,15 +138,21 @@ row_at_not size i s h = rw (lt-leb (i * size + size) (length s) h)
 pub row_at_none : (i : ℕ) (s : List ℕ) → row_at 0 i s ≡ []
 row_at_none i s = row_at_whole 0 i s (rw (mul-zero i) (omega arith))
 
-pub restored_none : (earlier used : ℕ) (s : List ℕ) → restored 0 earlier used s ≡ s
-unfolding restored cleared
-restored_none earlier used s = rw (mul-zero earlier, mul-zero used, le-leb 0 (length s) (omega arith))
-
--- nothing is cleared where the table does not have the used rows, or they are fewer than the earlier ones
-pub restored_not : (size earlier used : ℕ) (s : List ℕ) → 0 < size → length s / size < used → restored size earlier used s ≡ s
-unfolding restored
-restored_not size earlier used s h k = cleared_not (earlier * size) (used * size) s ((div-lt_iff_lt-mul h).0 k)
-
-pub restored_before : (size earlier used : ℕ) (s : List ℕ) → 0 < size → used < earlier → restored size earlier used s ≡ s
-unfolding restored
-restored_before size earlier used s h k = cleared_before (earlier * size) (used * size) s (mul-lt-mul_of_pos_right k h)
+-- a place beyond the end of any list is as good as one still further
+pub cleared_bounded : (from to most : ℕ) (s : List ℕ) → length s < most → cleared (min from most) (min to most) s ≡ cleared from to s
+cleared_bounded from to most s h = at (leb to (length s)) (leb from to) refl refl
+  where
+    at : (b d : Bool) → leb to (length s) ≡ b → leb from to ≡ d → cleared (min from most) (min to most) s ≡ cleared from to s
+    at true true e f =
+        let within = leb-true to (length s) e in
+        let before = leb-true from to f in
+        let last : min to most ≡ to = omega arith in
+        let first : min from most ≡ from = omega arith in
+        rw (last, first) refl
+    at true false e f =
+        let within = leb-true to (length s) e in
+        let behind = leb-false from to f in
+        cleared_before (min from most) (min to most) s (omega arith) ∙ sym (cleared_before from to s behind)
+    at false d e f =
+        let beyond = leb-false to (length s) e in
+        cleared_not (min from most) (min to most) s (omega arith) ∙ sym (cleared_not from to s beyond)

@@ -4,3 +4,4 @@ pub mod JoinLaws
 pub mod TableLaws
 pub mod CountLaws
 pub mod OrderLaws
+pub mod ChunkLaws

@@ -11,12 +11,13 @@ use native.Mathlib.Omega.{arith}
 use borrow.Author.Tests.{ltb-true, ltb-false, lt-ltb, le-ltb, le-leb}
 use lib.Dec.{ltb}
 use lib.ListN.{length, take, drop, get_or, length-drop}
-use lib.Seq.{drop-drop}
+use lib.Seq.{drop-drop, get_or-take, get_or-drop}
 use Rattle.text.specs.Text.{same}
 use Rattle.text.proofs.Laws.{same_unequal, same_sym}
 use Rattle.table.specs.Table.{some_row, distinct}
 use Rattle.table.specs.Bytes.{rows}
-use Rattle.table.specs.Order.{row, eight, word, Before}
+use Rattle.table.specs.Order.{row, two, four, eight, word, Before}
+use Rattle.std.specs.Int.{from_le_bytes, w64}
 use Rattle.table.proofs.TableLaws.{present, none, texts}
 use Rattle.table.proofs.CountLaws.{distinct_within}
 use Rattle.table.proofs.JoinLaws.{rows_count}
@@ -61,6 +62,24 @@ word_whole i s h = rw (lt-ltb i (length s / 8) h)
 pub word_last : (i : ℕ) (s : List ℕ) → length s / 8 ≤ i → word i s ≡ eight (length s - 8) s
 unfolding word
 word_last i s h = rw (le-ltb i (length s / 8) h)
+
+-- the word that eight bytes say
+pub word_read : (at : ℕ) (s bytes : List ℕ) → bytes ≡ take 8 (drop at s) → from_le_bytes w64 bytes ≡ eight at s
+unfolding eight four two
+word_read at s bytes e =
+    let byte : (i j : ℕ) → i < 8 → at + i ≡ j → get_or bytes i 0 ≡ get_or s j 0 = λ i j h p. rw (e, ← p) (get_or-take 8 (drop at s) i 0 h ∙ get_or-drop at s i 0) in
+    let first = byte 0 at (omega arith) (omega arith) in
+    omega (
+      arith,
+      first,
+      byte 1 (at + 1) (omega arith) refl,
+      byte 2 (at + 2) (omega arith) refl,
+      byte 3 (at + 2 + 1) (omega arith) (omega arith),
+      byte 4 (at + 4) (omega arith) refl,
+      byte 5 (at + 4 + 1) (omega arith) (omega arith),
+      byte 6 (at + 4 + 2) (omega arith) (omega arith),
+      byte 7 (at + 4 + 2 + 1) (omega arith) (omega arith),
+    )
 
 -- ---- rows by their numbers
 

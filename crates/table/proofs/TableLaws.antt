@@ -9,7 +9,7 @@ use native.Mathlib.Nat.{ℕ_set}
 use native.Mathlib.Omega.{arith}
 use borrow.Author.Tests.{leb-true, le-leb, not-true, not-false}
 use lib.Dec.{leb}
-use lib.ListN.{length, length-append}
+use lib.ListN.{length}
 use Rattle.text.specs.Text.{same as same_text}
 use Rattle.text.proofs.Laws.{both_true, isnt, and_split, or_split, same_true, same_itself}
 use Rattle.table.specs.Table.{some_row, keep, add, add_all, Change, adds, drops, change, distinct, sound}
@@ -118,18 +118,6 @@ module _ {Row : Type 0} where
 
   spared : (c d : Change Row) (p : Row → Bool) → Spares c d → some_row (λ r. p r && stays c r) (new d) ≡ some_row p (new d)
   spared c d p e = some_on (new d) (λ r m. rw (not-false (stays c r) (none_at (λ t. not (stays c t)) e m), and-true))
-
-module _ {Row : Type 0} (same : Row → Row → Bool) where
-  -- adding never shortens a table
-  pub add_all_longer : (new rows : List Row) → length rows ≤ length (add_all same new rows)
-  unfolding add_all add
-  add_all_longer [] rows = omega arith
-  add_all_longer (r ∷ new) rows = at (some_row (same r) rows) (add_all_longer new (add same r rows))
-    where
-      at : (b : Bool) → length (cond b rows (rows ++ (r ∷ []))) ≤ length (add_all same new (add same r rows))
-          → length rows ≤ length (add_all same new (add same r rows))
-      at true h = h
-      at false h = omega (arith, length-append rows (r ∷ []))
 
 -- the test is equality
 pub record Equals {Row : Type 0} (same : Row → Row → Bool) : Type 0 where

@@ -1,7 +1,7 @@
 -- Tables as bytes: document 01, Store. A table is a stretch of the store; its rows are its whole rows of one size, the used ones first.
 use Rattle.std.specs.Prelude.{ℕ, zero, suc, ◌+◌, ◌*◌, ◌-◌, ◌/◌, ◌%◌, Bool, true, ◌&&◌, not, cond, List, [], ◌∷◌, ◌++◌, eqb, leb, length, get_or, take, drop, replicate}
 use Rattle.text.specs.Text.{same, fits_at, pasted}
-use Rattle.table.specs.Table.{some_row}
+use Rattle.table.specs.Table.{some_row, keep}
 use Rattle.table.specs.declared.Pushed.{Pushed}
 use Rattle.table.specs.declared.Pushed.TheVariants.{Present, Added, Full}
 
@@ -42,11 +42,7 @@ push_answer row used s = cond (present row used s) Present (cond (fits_at (used 
 unfoldable pub pushed : List ℕ → ℕ → List ℕ → List ℕ
 pushed row used s = cond (present row used s) s (pasted (used * length row) row s)
 
--- a row goes if its mark is there and not 0
-unfoldable pub is_marked : List ℕ → ℕ → Bool
-is_marked marks i = not (eqb (get_or marks i 0) 0)
-
--- the rows that stay
+-- the rows that stay where a mark that is not 0 says that one goes
 unfoldable pub unmarked : List ℕ → List (List ℕ) → List (List ℕ)
 unmarked marks [] = []
 unmarked [] (r ∷ rs) = r ∷ rs
@@ -64,6 +60,16 @@ unfoldable pub removed : ℕ → ℕ → List ℕ → List ℕ → List ℕ
 removed size used marks s =
     join (kept size used marks s)
     ++ (replicate ((length (rows size used s) - length (kept size used marks s)) * size) 0 ++ drop (length (rows size used s) * size) s)
+
+-- the rows that stay where those that pass a test go
+unfoldable pub left : (List ℕ → Bool) → ℕ → ℕ → List ℕ → List (List ℕ)
+left goes size used s = keep (λ r. not (goes r)) (rows size used s)
+
+-- "removal closes gaps": the rows that stay, then zero bytes for those that went, then the rest as it was
+unfoldable pub closed_up : (List ℕ → Bool) → ℕ → ℕ → List ℕ → List ℕ
+closed_up goes size used s =
+    join (left goes size used s)
+    ++ (replicate ((length (rows size used s) - length (left goes size used s)) * size) 0 ++ drop (length (rows size used s) * size) s)
 
 -- a table put back to an earlier number of used rows: the rows behind them are zero again, as unused rows are; where the table has not
 -- so many, the table as it was

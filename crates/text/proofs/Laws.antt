@@ -4,15 +4,18 @@ use Prim.Native.Nat.{ℕ, zero, suc, ◌+◌, ◌-◌, ◌*◌, ◌≤◌, ◌<�
 use mathlib.Core.Path.{◌≡◌, refl, sym, ap, ◌∙◌}
 use mathlib.Core.Bool.{Bool, true, false, ◌&&◌, ◌||◌, true≢false, or-true}
 use mathlib.Core.List.{List, [], ◌∷◌, ◌++◌, append_assoc, append-nil}
-use native.Mathlib.Numerals.{add-one, sub-one}
+use native.Mathlib.Numerals.{sub-one}
 use native.Mathlib.Omega.{arith}
-use borrow.Author.Tests.{eqb-true, eq-eqb, ne_eqb, leb-true, leb-false, le-leb, lt-leb}
+use borrow.Author.Tests.{eqb-true, eq-eqb, leb-true, leb-false, le-leb, lt-leb}
 use lib.Dec.{eqb, leb}
-use lib.ListN.{length, take, drop, get_or, set, length-append, length-drop, drop_of_length-le}
-use lib.Seq.{drop-cons, drop-drop, take_at, drop_at, set_split}
-use Rattle.text.specs.declared.Replaced.{Replaced}
-use Rattle.text.specs.declared.Replaced.TheVariants.{Length, TooLong}
-use Rattle.text.specs.Text.{same, begins, contains, occurs, replace_from, replace, fitted, written, fits_at, pasted}
+use lib.ListN.{length, take, drop, length-append, length-drop}
+use lib.Seq.{drop-drop, take_at, drop_at, take-length}
+use borrow.Rule.Slice.PartMut.{put_mid}
+use Rattle.std.proofs.lemmas.Slice.{put_mid-paste}
+use Rattle.std.specs.Prelude.{Option, Some, None, is_some, unwrap_or}
+use Rattle.std.proofs.lemmas.Option.{same_Some, none-some}
+use Rattle.std.specs.Cmp.Lexicographic.{pointwise}
+use Rattle.text.specs.Text.{same, begins, contains, occurs, FirstAt, replace_from, replace, fitted, written, fits_at, pasted}
 
 -- ---- tests
 
@@ -97,31 +100,23 @@ begins-length pattern text e = omega (arith, simp length-append at (ap length (b
 pub begins_short : (pattern text : List ℕ) → length text < length pattern → begins pattern text ≡ false
 begins_short pattern text h = isnt (begins pattern text) (λ e. let fits = begins-length pattern text e in omega arith)
 
--- texts of one length are equal if one begins with the other
-pub same_begins : (s t : List ℕ) → length s ≡ length t → same s t ≡ begins s t
-unfolding same begins
-same_begins [] [] h = refl
-same_begins [] (b ∷ t) h = absurd (omega arith)
-same_begins (a ∷ s) [] h = absurd (omega arith)
-same_begins (a ∷ s) (b ∷ t) h = rw (same_begins s t (omega arith))
+-- what `==` on slices computes, and with it the test of a beginning
+pub same_pointwise : (s t : List ℕ) → pointwise eqb s t ≡ same s t
+unfolding same
+same_pointwise [] [] = refl
+same_pointwise [] (b ∷ t) = refl
+same_pointwise (a ∷ s) [] = refl
+same_pointwise (a ∷ s) (b ∷ t) = rw (same_pointwise s t) refl
 
--- the step of the loop of `begins`, where two bytes agree and where they differ, and its end
-begins_step : (pattern text : List ℕ) (i : ℕ) → i < length pattern → i < length text
-    → begins (drop i pattern) (drop i text) ≡ (eqb (get_or pattern i 0) (get_or text i 0) && begins (drop (i + 1) pattern) (drop (i + 1) text))
+eqb_sym : (a b : ℕ) → eqb a b ≡ eqb b a
+eqb_sym a b = both_true (eqb a b) (eqb b a) (λ e. eq-eqb b a (sym (eqb-true a b e))) (λ e. eq-eqb a b (sym (eqb-true b a e)))
+
+pub begins_fits : (pattern text : List ℕ) → length pattern ≤ length text
+    → pointwise eqb (take (length pattern) text) pattern ≡ begins pattern text
 unfolding begins
-begins_step pattern text i h k = rw (add-one, drop-cons pattern i 0, drop-cons text i 0)
-
-pub begins_agree : (pattern text : List ℕ) (i : ℕ) → i < length pattern → i < length text → get_or pattern i 0 ≡ get_or text i 0
-    → begins (drop i pattern) (drop i text) ≡ begins (drop (i + 1) pattern) (drop (i + 1) text)
-begins_agree pattern text i h k e = begins_step pattern text i h k ∙ rw (eq-eqb _ _ e)
-
-pub begins_differ : (pattern text : List ℕ) (i : ℕ) → i < length pattern → i < length text → (get_or pattern i 0 ≡ get_or text i 0 → ⊥)
-    → begins (drop i pattern) (drop i text) ≡ false
-begins_differ pattern text i h k e = begins_step pattern text i h k ∙ rw (ne_eqb _ _ e)
-
-pub begins_end : (pattern text : List ℕ) (i : ℕ) → length pattern ≤ i → begins (drop i pattern) text ≡ true
-unfolding begins
-begins_end pattern text i h = rw (drop_of_length-le pattern h)
+begins_fits [] text h = refl
+begins_fits (p ∷ pattern) [] h = absurd (omega arith)
+begins_fits (p ∷ pattern) (b ∷ text) h = rw (eqb_sym b p, begins_fits pattern text (omega arith)) refl
 
 -- ---- search
 
@@ -151,21 +146,6 @@ unfolding contains
 within_contains [] pattern back = contains-begins pattern (pattern ++ back) (begins_append pattern back)
 within_contains (b ∷ front) pattern back = rw (within_contains front pattern back) (or-true (begins pattern (b ∷ (front ++ (pattern ++ back)))))
 
--- the step of the loop of `contains`, and its end
-pub contains_past : (pattern text : List ℕ) (i : ℕ) → i < length text → begins pattern (drop i text) ≡ false
-    → contains pattern (drop i text) ≡ contains pattern (drop (i + 1) text)
-unfolding contains
-contains_past pattern text i h e =
-    let here = rw (drop-cons text i 0) at e in
-    rw (add-one, drop-cons text i 0, here)
-
-pub contains_end : (pattern text : List ℕ) (i : ℕ) → length text ≤ i → contains pattern (drop i text) ≡ eqb (length pattern) 0
-contains_end pattern text i h = rw (drop_of_length-le text h) (empty pattern)
-  where
-    empty : (s : List ℕ) → contains s [] ≡ eqb (length s) 0
-    empty [] = unfold contains begins in refl
-    empty (p ∷ s) = unfold contains begins in sym (ne_eqb _ _ (λ (e : length (p ∷ s) ≡ 0). omega arith))
-
 -- ---- occurrences
 
 pub occurs_empty : (pattern text : List ℕ) → length pattern ≡ 0 → occurs pattern text ≡ false
@@ -187,6 +167,26 @@ pub occurs_false : (pattern text : List ℕ) → begins pattern text ≡ false �
 unfolding occurs
 occurs_false [] text e = refl
 occurs_false (p ∷ pattern) text e = e
+
+-- where the first occurrence stands tells whether the text contains the pattern
+pub contains_empty : (pattern text : List ℕ) → length pattern ≡ 0 → contains pattern text ≡ true
+contains_empty [] text h = contains-begins [] text (unfold begins in refl)
+contains_empty (p ∷ pattern) text h = absurd (omega arith)
+
+pub contains_first : (pattern text : List ℕ) (found : Option ℕ) → (length pattern ≡ 0 → ⊥) → FirstAt pattern text found
+    → is_some found ≡ contains pattern text
+unfolding contains
+contains_first pattern text None some h = sym (nowhere text (λ k. sym (occurs_begins _ _ some) ∙ h k))
+  where
+    nowhere : (s : List ℕ) → ((k : ℕ) → begins pattern (drop k s) ≡ false) → contains pattern s ≡ false
+    nowhere [] f = f 0
+    nowhere (b ∷ s) f = rw (f 0) (nowhere s (λ k. f (suc k)))
+contains_first pattern text (Some i) some h = sym (later i text (contains-begins _ _ (sym (occurs_begins _ _ some) ∙ h.1)))
+  where
+    later : (k : ℕ) (s : List ℕ) → contains pattern (drop k s) ≡ true → contains pattern s ≡ true
+    later zero s e = e
+    later (suc k) [] e = e
+    later (suc k) (b ∷ s) e = rw (later k s e) (or-true (begins pattern (b ∷ s)))
 
 -- ---- replacing
 
@@ -222,35 +222,33 @@ replace_absent pattern new (b ∷ text) e =
     let h = or_split (begins pattern (b ∷ text)) _ e in
     replace_other pattern new b text (occurs_false pattern (b ∷ text) h.0) ∙ ap {B = List ℕ} (λ s. b ∷ s) (replace_absent pattern new text h.1)
 
--- the two steps of the loops that replace, at index `i`: an occurrence is taken, or a byte is passed; and their end
-pub record Taken (pattern new text : List ℕ) (i : ℕ) : Type 0 where
-  pub some : 0 < length pattern
-  pub room : i + length pattern ≤ length text
-  pub step : replace pattern new (drop i text) ≡ new ++ replace pattern new (drop (i + length pattern) text)
-  pub lengths : length (replace pattern new (drop i text)) ≡ length new + length (replace pattern new (drop (i + length pattern) text))
+-- an occurrence at the front
+pub first_here : (pattern text : List ℕ) (found : Option ℕ) → FirstAt pattern text found → unwrap_or found (length text) ≡ 0 → 0 < length text
+    → (0 < length pattern) × (length pattern ≤ length text) × (occurs pattern text ≡ true)
+first_here pattern text None h e some = absurd (omega arith)
+first_here pattern text (Some zero) h e some = ((occurs_true pattern text h.1).0, omega arith, h.1)
+first_here pattern text (Some (suc i)) h e some = absurd (omega arith)
 
-pub record Passed (pattern new text : List ℕ) (i : ℕ) : Type 0 where
-  pub step : replace pattern new (drop i text) ≡ get_or text i 0 ∷ replace pattern new (drop (i + 1) text)
-  pub lengths : length (replace pattern new (drop i text)) ≡ suc (length (replace pattern new (drop (i + 1) text)))
+-- the bytes before the first occurrence stay
+pub replace_kept : (pattern new text : List ℕ) (found : Option ℕ) → FirstAt pattern text found
+    → replace pattern new text ≡ take (unwrap_or found (length text)) text ++ replace pattern new (drop (unwrap_or found (length text)) text)
+replace_kept pattern new text found h = kept (unwrap_or found (length text)) text (before found h)
+  where
+    before : (o : Option ℕ) → FirstAt pattern text o → (k : ℕ) → k < unwrap_or o (length text) → occurs pattern (drop k text) ≡ false
+    before None f k q = f k
+    before (Some i) f k q = f.2 k q
 
-pub taken : (pattern new text : List ℕ) (i : ℕ) → occurs pattern (drop i text) ≡ true → Taken pattern new text i
-taken pattern new text i e =
-    let h = occurs_true pattern (drop i text) e in
-    let fits = begins-length pattern (drop i text) h.1 in
-    let left = length-drop i text in
-    let step = rw (drop-drop (length pattern) i text) at (replace_occurrence pattern new (drop i text) e) in
-    record { some = h.0; room = omega arith; step = step; lengths = ap length step ∙ length-append new _ }
+    kept : (n : ℕ) (s : List ℕ) → ((k : ℕ) → k < n → occurs pattern (drop k s) ≡ false)
+        → replace pattern new s ≡ take n s ++ replace pattern new (drop n s)
+    kept zero s f = refl
+    kept (suc n) [] f = refl
+    kept (suc n) (b ∷ s) f =
+        replace_other pattern new b s (f 0 (omega arith)) ∙ ap {B = List ℕ} (λ r. b ∷ r) (kept n s (λ k q. f (suc k) (omega arith)))
 
-pub passed : (pattern new text : List ℕ) (i : ℕ) → i < length text → occurs pattern (drop i text) ≡ false → Passed pattern new text i
-passed pattern new text i h e =
-    let here = rw (drop-cons text i 0) at e in
-    let other = replace_other pattern new (get_or text i 0) (drop (suc i) text) here in
-    let step : replace pattern new (drop i text) ≡ get_or text i 0 ∷ replace pattern new (drop (i + 1) text) = rw (add-one, drop-cons text i 0) other in
-    record { step = step; lengths = ap length step }
-
-pub replace_end : (pattern new text : List ℕ) (i : ℕ) → length text ≤ i → replace pattern new (drop i text) ≡ []
+pub replace_nothing : (pattern new text : List ℕ) → length text ≡ 0 → replace pattern new text ≡ []
 unfolding replace_from replace
-replace_end pattern new text i h = rw (drop_of_length-le text h)
+replace_nothing pattern new [] h = refl
+replace_nothing pattern new (b ∷ text) h = absurd (omega arith)
 
 -- ---- the length of a replacement
 
@@ -300,38 +298,31 @@ times_fit pattern text = let h = counted pattern [] 0 text (omega arith) in omeg
 
 -- ---- the answer
 
-pub fitted-length : (result : List ℕ) (room n : ℕ) → n ≡ length result → n ≤ room → Length n ≡ fitted result room
+pub fitted_fits : (result : List ℕ) (room n : ℕ) → n ≡ length result → n ≤ room → Some n ≡ fitted result room
 unfolding fitted
-fitted-length result room n e h = rw (← e, le-leb n room h)
+fitted_fits result room n e h = rw (← e, le-leb n room h)
 
-pub fitted-too_long : (result : List ℕ) (room : ℕ) → room < length result → TooLong ≡ fitted result room
+pub fitted_not : (result : List ℕ) (room : ℕ) → room < length result → None ≡ fitted result room
 unfolding fitted
-fitted-too_long result room h = rw (lt-leb (length result) room h)
+fitted_not result room h = rw (lt-leb (length result) room h)
 
 -- what an answer tells
-pub length_told : {answer : Replaced} {n : ℕ} (result : List ℕ) (room : ℕ) → answer ≡ fitted result room → answer ≡ Length n
+pub length_told : {answer : Option ℕ} {n : ℕ} (result : List ℕ) (room : ℕ) → answer ≡ fitted result room → answer ≡ Some n
     → (n ≡ length result) × (n ≤ room)
 length_told {answer} {n} result room e q = at (leb (length result) room) refl
   where
     at : (t : Bool) → leb (length result) room ≡ t → (n ≡ length result) × (n ≤ room)
     at true h =
         let fits = leb-true (length result) room h in
-        let known = fitted-length result room (length result) refl fits in
-        let all : n ≡ length result = cc in
+        let all = same_Some n _ (sym q ∙ e ∙ sym (fitted_fits result room (length result) refl fits)) in
         (all, omega arith)
-    at false h =
-        let known = fitted-too_long result room (leb-false (length result) room h) in
-        let z : ◌≡◌ {A = ℕ} 0 1 = cc in
-        absurd (omega arith)
+    at false h = absurd (none-some n (fitted_not result room (leb-false (length result) room h) ∙ sym e ∙ q))
 
-pub too_long_told : {answer : Replaced} (result : List ℕ) (room : ℕ) → answer ≡ fitted result room → answer ≡ TooLong → room < length result
+pub too_long_told : {answer : Option ℕ} (result : List ℕ) (room : ℕ) → answer ≡ fitted result room → answer ≡ None → room < length result
 too_long_told {answer} result room e q = at (leb (length result) room) refl
   where
     at : (t : Bool) → leb (length result) room ≡ t → room < length result
-    at true h =
-        let known = fitted-length result room (length result) refl (leb-true (length result) room h) in
-        let z : ◌≡◌ {A = ℕ} 0 1 = cc in
-        omega arith
+    at true h = absurd (none-some _ (sym q ∙ e ∙ sym (fitted_fits result room (length result) refl (leb-true (length result) room h))))
     at false h = leb-false (length result) room h
 
 -- ---- the buffer
@@ -347,6 +338,24 @@ written_too_long result buffer h = rw (lt-leb (length result) (length buffer) h)
 -- the front of a buffer that has room is the result
 pub written-take : (result buffer : List ℕ) → length result ≤ length buffer → take (length result) (written result buffer) ≡ result
 written-take result buffer h = rw (written_fits result buffer h) (take_at result _ _ refl)
+
+-- a paste, with room for it and without
+pub fits : (at : ℕ) (source buffer : List ℕ) → at + length source ≤ length buffer → fits_at at source buffer ≡ true
+unfolding fits_at
+fits at source buffer h = le-leb (at + length source) (length buffer) h
+
+pub fits_not : (at : ℕ) (source buffer : List ℕ) → length buffer < at + length source → fits_at at source buffer ≡ false
+unfolding fits_at
+fits_not at source buffer h = lt-leb (at + length source) (length buffer) h
+
+pub pasted_fits : (at : ℕ) (source buffer : List ℕ) → at + length source ≤ length buffer
+    → pasted at source buffer ≡ take at buffer ++ (source ++ drop (at + length source) buffer)
+unfolding pasted fits_at
+pasted_fits at source buffer h = rw (le-leb (at + length source) (length buffer) h)
+
+pub pasted_not : (at : ℕ) (source buffer : List ℕ) → length buffer < at + length source → pasted at source buffer ≡ buffer
+unfolding pasted fits_at
+pasted_not at source buffer h = rw (lt-leb (at + length source) (length buffer) h)
 
 -- the front of the buffer, which was `before` and has room for the result, is written: with `rest` it is the result
 pub record Wrote (result before buffer rest : List ℕ) (n : ℕ) : Type 0 where
@@ -379,25 +388,23 @@ wrote_part {before = before} {buffer = buffer} {rest = rest} {n = n} part w =
       whole = rw (front, ← drop-drop (length part) n buffer, left, drop-drop (length part) n before) (sym (append_assoc w.front part _));
     }
 
--- one byte more
-pub wrote_byte : {result before buffer rest : List ℕ} {n b : ℕ} → Wrote result before buffer (b ∷ rest) n
-    → Wrote result before (set buffer n b) rest (n + 1)
-wrote_byte {buffer = buffer} {n = n} {b = b} w =
-    let lengths = wrote_lengths w in
-    let step : set buffer n b ≡ take n buffer ++ (b ∷ drop (n + 1) buffer) = set_split buffer n b (omega arith) ∙ rw (add-one n) in
-    rw step (wrote_part (b ∷ []) w)
+-- one part more, pasted
+pub wrote_next : {result before buffer : List ℕ} {n : ℕ} (part rest buffer_after whole : List ℕ) → Wrote result before buffer whole n → whole ≡ part ++ rest
+    → buffer_after ≡ pasted n part buffer → Wrote result before buffer_after rest (n + length part)
+wrote_next {buffer = buffer} {n = n} part rest buffer_after whole w e q =
+    let v = rw e at w in
+    let room = wrote_lengths v in
+    rw (q, pasted_fits n part buffer (omega (arith, simp length-append at room.1))) (wrote_part part v)
 
 pub wrote_all : {result before buffer : List ℕ} {n : ℕ} → Wrote result before buffer [] n → buffer ≡ written result before
 wrote_all {result} {before} w =
     let all : w.front ≡ result = sym (append-nil w.front) ∙ w.done in
     rw (written_fits result before w.room, ← all, w.count) w.whole
 
--- a paste, with room for it and without
-pub pasted_fits : (at : ℕ) (source buffer : List ℕ) → at + length source ≤ length buffer
-    → pasted at source buffer ≡ take at buffer ++ (source ++ drop (at + length source) buffer)
-unfolding pasted fits_at
-pasted_fits at source buffer h = rw (le-leb (at + length source) (length buffer) h)
-
-pub pasted_not : (at : ℕ) (source buffer : List ℕ) → length buffer < at + length source → pasted at source buffer ≡ buffer
-unfolding pasted fits_at
-pasted_not at source buffer h = rw (lt-leb (at + length source) (length buffer) h)
+-- a part of the buffer, written over
+pub pasted_part : (at k : ℕ) (source buffer now : List ℕ) → at + length source ≤ length buffer → now ≡ source → k ≡ length source
+    → put_mid at k buffer now ≡ pasted at source buffer
+pasted_part at k source buffer now room e q =
+    put_mid-paste at k buffer now source (length source) e (sym q) refl
+    ∙ rw (take-length source) (append_assoc (take at buffer) source _)
+    ∙ sym (pasted_fits at source buffer room)

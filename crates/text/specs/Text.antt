@@ -1,7 +1,5 @@
 -- Equality, search and replace on bytes: document 01, Bytes.
-use Rattle.std.specs.Prelude.{ℕ, zero, suc, ◌+◌, ◌-◌, Bool, true, false, ◌&&◌, ◌||◌, cond, List, [], ◌∷◌, ◌++◌, eqb, leb, length, take, drop}
-use Rattle.text.specs.declared.Replaced.{Replaced}
-use Rattle.text.specs.declared.Replaced.TheVariants.{Length, TooLong}
+use Rattle.std.specs.Prelude.{ℕ, zero, suc, ◌+◌, ◌-◌, Bool, true, false, ◌&&◌, ◌||◌, cond, Option, Some, None, MatchOption, ◌≡◌, ◌<◌, ◌≤◌, List, [], ◌∷◌, ◌++◌, eqb, leb, length, take, drop}
 
 -- "Equality"
 unfoldable pub same : List ℕ → List ℕ → Bool
@@ -26,6 +24,12 @@ unfoldable pub occurs : List ℕ → List ℕ → Bool
 occurs [] text = false
 occurs (p ∷ pattern) text = begins (p ∷ pattern) text
 
+-- the first occurrence that `replace` takes stands here; nowhere, it has none
+abbrev pub FirstAt : List ℕ → List ℕ → Option ℕ → Type 0
+FirstAt pattern text found =
+    MatchOption found ((k : ℕ) → occurs pattern (drop k text) ≡ false)
+    (λ i. (i + length pattern ≤ length text) × (occurs pattern (drop i text) ≡ true) × ((k : ℕ) → k < i → occurs pattern (drop k text) ≡ false))
+
 -- `new` for each occurrence, "left to right, non-overlapping"; the first `skip` bytes belong to an occurrence that was replaced
 unfoldable pub replace_from : List ℕ → List ℕ → ℕ → List ℕ → List ℕ
 replace_from pattern new skip [] = []
@@ -40,9 +44,9 @@ replace_from pattern new zero (b ∷ text) =
 unfoldable pub replace : List ℕ → List ℕ → List ℕ → List ℕ
 replace pattern new text = replace_from pattern new zero text
 
--- the answer for a buffer of `room` bytes: the result's length, or that it is longer than the buffer
-unfoldable pub fitted : List ℕ → ℕ → Replaced
-fitted result room = cond (leb (length result) room) (Length (length result)) TooLong
+-- the answer for a buffer of `room` bytes: the result's length; none, where it is longer than the buffer
+unfoldable pub fitted : List ℕ → ℕ → Option ℕ
+fitted result room = cond (leb (length result) room) (Some (length result)) None
 
 -- a buffer with the result at its front and the rest as it was; where the result is longer, all as it was
 unfoldable pub written : List ℕ → List ℕ → List ℕ

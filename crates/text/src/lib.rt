@@ -1,160 +1,119 @@
 // Equality, search and replace on bytes (document 01, Bytes). Every crate above compares and fills its texts here.
 #![tactic(auto)]
 
-ghost use Rattle.std.specs.Prelude.{◌≡◌, ◌++◌, ◌+◌, ◌≤◌, length, take, drop};
+ghost use Rattle.std.specs.Prelude.{◌≡◌, ◌++◌, ◌+◌, ◌≤◌, ◌<◌, length, take, drop};
 ghost use Rattle.text.specs.Text as spec;
-
-// What `replace` answers: the length of the result, or that it is longer than the buffer.
-#[derive(Clone, Copy)]
-pub enum Replaced {
-    Length(usize),
-    TooLong,
-}
 
 // The first `n` bytes of the text; all, where there are fewer.
 pub fn front(text: &[u8], n: usize) -> &[u8]
     ensures { result.now ≡ take n text.now }
 {
-    if n < text.len() {
-        return &text[..n];
-    }
-    text
+    &text[..n.min(text.len())]
 }
 
 // Are the two texts equal?
+#[tactic(auto, using(crate::proofs::Laws::same_pointwise))]
 pub fn same(a: &[u8], b: &[u8]) -> bool
     ensures { result ≡ spec.same a.now b.now }
 {
-    if a.len() != b.len() {
-        return false;
-    }
-    begins(b, a)
+    a == b
 }
 
-// Does the text begin with the pattern?
+// Does the text begin with the pattern? Where `eq ` does not, `starts_with` takes 16 instructions, this 11.
+#[tactic(auto, using(crate::proofs::Laws::begins_short, crate::proofs::Laws::begins_fits))]
 pub fn begins(text: &[u8], pattern: &[u8]) -> bool
     ensures { result ≡ spec.begins pattern.now text.now }
 {
-    if text.len() < pattern.len() {
-        return false;
+    text.len() >= pattern.len() && &text[..pattern.len()] == pattern
+}
+
+// Where the first occurrence that `replace` takes stands.
+fn place(text: &[u8], pattern: &[u8]) -> Option<usize>
+    ensures { spec.FirstAt pattern.now text.now result }
+{
+    if pattern.is_empty() {
+        return None;
     }
-    let mut i = 0;
-    while i < pattern.len() {
-        if pattern[i] != text[i] {
-            return false;
-        }
-        i += 1;
-    }
-    true
+    text.windows(pattern.len()).position(|part| part == pattern)
 }
 
 // Does the pattern stand somewhere in the text?
+#[tactic(auto, using(crate::proofs::Laws::contains_empty, crate::proofs::Laws::contains_first))]
 pub fn contains(text: &[u8], pattern: &[u8]) -> bool
     ensures { result ≡ spec.contains pattern.now text.now }
 {
-    let mut i = 0;
-    while i < text.len() {
-        if begins(&text[i..], pattern) {
-            return true;
-        }
-        i += 1;
-    }
-    pattern.len() == 0
+    pattern.is_empty() || place(text, pattern).is_some()
 }
 
-// Does an occurrence that `replace` takes begin the text?
-fn occurs(text: &[u8], pattern: &[u8]) -> bool
-    ensures { result ≡ spec.occurs pattern.now text.now }
+// The next piece of a replacement, and what is left of the text: `new` for an occurrence, else the bytes before the next.
+#[tactic(auto, using(crate::proofs::Laws::first_here, crate::proofs::Laws::replace_kept))]
+fn piece<'a>(text: &'a [u8], pattern: &[u8], new: &'a [u8]) -> (&'a [u8], &'a [u8])
+    requires { 0 < length text.now }
+    ensures step { spec.replace pattern.now new.now text.now ≡ result.0.now ++ spec.replace pattern.now new.now result.1.now }
+    ensures shorter { length result.1.now < length text.now }
 {
-    if pattern.len() == 0 {
-        return false;
+    let kept = place(text, pattern).unwrap_or(text.len());
+    if kept == 0 {
+        return (new, &text[pattern.len()..]);
     }
-    begins(text, pattern)
+    text.split_at(kept)
 }
 
-// The length of the text with `new` for each occurrence of the pattern, or that it is over `room`.
-pub fn replaced_length(text: &[u8], pattern: &[u8], new: &[u8], room: usize) -> Replaced
+// The length of the text with `new` for each occurrence of the pattern; none, where it is over `room`.
+#[tactic(auto, using(crate::proofs::Laws::replace_nothing, crate::proofs::Laws::fitted_fits))]
+pub fn replaced_length(text: &[u8], pattern: &[u8], new: &[u8], room: usize) -> Option<usize>
     ensures { result ≡ spec.fitted (spec.replace pattern.now new.now text.now) room }
 {
     let mut n = 0;
-    let mut i = 0;
-    while i < text.len() {
-        if occurs(&text[i..], pattern) {
-            if room - n < new.len() {
-                return Replaced::TooLong;
-            }
-            n += new.len();
-            i += pattern.len();
-        } else {
-            if n == room {
-                return Replaced::TooLong;
-            }
-            n += 1;
-            i += 1;
+    let mut rest = text;
+    while !rest.is_empty() {
+        let (next, after) = piece(rest, pattern, new);
+        if room - n < next.len() {
+            return None;
         }
+        n += next.len();
+        rest = after;
     }
-    Replaced::Length(n)
-}
-
-// Writes the source into the buffer from `at` on.
-fn put(source: &[u8], buffer: &mut [u8], at: usize)
-    requires { at + length source.now ≤ length buffer.old }
-    ensures { buffer.new ≡ take at buffer.old ++ (source.now ++ drop (at + length source.now) buffer.old) }
-{
-    let mut i = 0;
-    while i < source.len() {
-        buffer[at + i] = source[i];
-        i += 1;
-    }
+    Some(n)
 }
 
 // Writes the source into the buffer from `at` on, where it fits there; else the buffer is unchanged. Answers whether it fitted.
+#[tactic(auto, using(crate::proofs::Laws::fits, crate::proofs::Laws::fits_not, crate::proofs::Laws::pasted_part, crate::proofs::Laws::pasted_not))]
 pub fn paste(source: &[u8], buffer: &mut [u8], at: usize) -> bool
     ensures value { result ≡ spec.fits_at at source.now buffer.old }
     ensures buffer_after { buffer.new ≡ spec.pasted at source.now buffer.old }
 {
-    if buffer.len() < at {
+    if buffer.len() < at || buffer.len() - at < source.len() {
         return false;
     }
-    if buffer.len() - at < source.len() {
-        return false;
-    }
-    put(source, buffer, at);
+    buffer[at..at + source.len()].copy_from_slice(source);
     true
 }
 
 // Writes the text with `new` for each occurrence of the pattern to the front of the buffer, which has room for it.
+#[tactic(auto, using(crate::proofs::Laws::wrote_lengths, crate::proofs::Laws::wrote_next))]
 fn write_replaced(text: &[u8], pattern: &[u8], new: &[u8], buffer: &mut [u8])
     requires { length (spec.replace pattern.now new.now text.now) ≤ length buffer.old }
     ensures { buffer.new ≡ spec.written (spec.replace pattern.now new.now text.now) buffer.old }
 {
     let mut n = 0;
-    let mut i = 0;
-    while i < text.len() {
-        if occurs(&text[i..], pattern) {
-            put(new, buffer, n);
-            n += new.len();
-            i += pattern.len();
-        } else {
-            buffer[n] = text[i];
-            n += 1;
-            i += 1;
-        }
+    let mut rest = text;
+    while !rest.is_empty() {
+        let (next, after) = piece(rest, pattern, new);
+        paste(next, buffer, n);
+        n += next.len();
+        rest = after;
     }
 }
 
 // Writes the text with `new` for each occurrence of the pattern, left to right and non-overlapping, to the front of the
 // buffer. Where the result is longer than the buffer, the buffer is unchanged.
-pub fn replace(text: &[u8], pattern: &[u8], new: &[u8], buffer: &mut [u8]) -> Replaced
+#[tactic(auto, using(crate::proofs::Laws::length_told, crate::proofs::Laws::too_long_told, crate::proofs::Laws::written_too_long))]
+pub fn replace(text: &[u8], pattern: &[u8], new: &[u8], buffer: &mut [u8]) -> Option<usize>
     ensures value { result ≡ spec.fitted (spec.replace pattern.now new.now text.now) (length buffer.old) }
     ensures buffer_after { buffer.new ≡ spec.written (spec.replace pattern.now new.now text.now) buffer.old }
 {
-    let length = replaced_length(text, pattern, new, buffer.len());
-    match length {
-        Replaced::TooLong => {}
-        Replaced::Length(_) => {
-            write_replaced(text, pattern, new, buffer);
-        }
-    }
-    length
+    let length = replaced_length(text, pattern, new, buffer.len())?;
+    write_replaced(text, pattern, new, buffer);
+    Some(length)
 }

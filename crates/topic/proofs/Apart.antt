@@ -3,6 +3,7 @@ use Prim.Native.Nat.{ℕ, ◌+◌, ◌<◌, ◌≤◌}
 use native.Mathlib.Numerals.{add-one}
 use mathlib.Core.Path.{◌≡◌, refl, sym, ap, ◌∙◌}
 use mathlib.Core.Bool.{Bool, true, false, ◌&&◌, not, cond, true≢false, and-false}
+use mathlib.Core.Logic.{◌⊎◌, inl, inr}
 use mathlib.Core.List.{List, [], ◌∷◌}
 use lib.Dec.{eqb}
 use lib.ListN.{length, get_or, drop, drop_of_length-le}
@@ -15,26 +16,21 @@ use Rattle.topic.proofs.Scan.{Leveled, nil, start, inside, leveled, leveled_leve
 
 -- ---- by its tests, at the byte where a scan stands
 
-pub apart_end : (filter text : List ℕ) (i : ℕ) → length filter ≤ i → begins_apart (drop i filter) (drop i text) ≡ false
+pub apart_end : (filter text : List ℕ) (i : ℕ) → length filter ≤ i ⊎ length text ≤ i → begins_apart (drop i filter) (drop i text) ≡ false
 unfolding begins_apart
-apart_end filter text i h = rw (drop_of_length-le filter h)
+apart_end filter text i (inl h) = rw (drop_of_length-le filter h)
+apart_end filter text i (inr h) = rw (drop_of_length-le text h) (nothing (drop i filter))
+  where
+    nothing : (s : List ℕ) → begins_apart s [] ≡ false
+    nothing [] = refl
+    nothing (b ∷ s) = refl
 
-pub apart_no_text : (filter text : List ℕ) (i : ℕ) → i < length filter → length text ≤ i → begins_apart (drop i filter) (drop i text) ≡ false
-unfolding begins_apart
-apart_no_text filter text i h k = rw (drop-cons filter i 0, drop_of_length-le text k)
-
-apart_step : (filter text : List ℕ) (i : ℕ) → i < length filter → i < length text
+pub apart_at : (filter text : List ℕ) (i : ℕ) → i < length filter → i < length text
     → begins_apart (drop i filter) (drop i text)
     ≡ cond (eqb (get_or filter i 0) plus) false
     (cond (eqb (get_or filter i 0) hash) false (cond (eqb (get_or filter i 0) (get_or text i 0)) (begins_apart (drop (i + 1) filter) (drop (i + 1) text)) true))
 unfolding begins_apart
-apart_step filter text i h k = rw (add-one, drop-cons filter i 0, drop-cons text i 0)
-
-pub apart_at : (filter text : List ℕ) (i : ℕ) {single multi alike : Bool} → i < length filter → i < length text → eqb (get_or filter i 0) plus ≡ single → eqb (get_or filter i 0) hash ≡ multi
-    → eqb (get_or filter i 0) (get_or text i 0) ≡ alike
-    → begins_apart (drop i filter) (drop i text) ≡ cond single false (cond multi false (cond alike (begins_apart (drop (i + 1) filter) (drop (i + 1) text)) true))
-apart_at filter text i h k s m a =
-    apart_step filter text i h k ∙ (λ j. cond (s j) false (cond (m j) false (cond (a j) (begins_apart (drop (i + 1) filter) (drop (i + 1) text)) true)))
+apart_at filter text i h k = rw (add-one, drop-cons filter i 0, drop-cons text i 0) refl
 
 -- ---- T of such texts
 

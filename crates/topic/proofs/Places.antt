@@ -1,18 +1,17 @@
 -- Laws of levels by their places, and of the walk: a step does not change what a walk comes to.
 use Prim.Native.Nat.{ℕ, zero, suc, ◌+◌, ◌-◌, ◌≤◌, ◌<◌}
 use native.Mathlib.Nat.{zero-add}
-use native.Mathlib.Numerals.{add-one}
 use native.Mathlib.Omega.{arith}
 use mathlib.Core.Path.{◌≡◌, refl, sym, ap, subst, ◌∙◌}
-use mathlib.Core.Bool.{Bool, true, false, ◌&&◌, ◌||◌, not, cond, and-true}
+use mathlib.Core.Bool.{Bool, true, false, ◌&&◌, ◌||◌, cond, and-true}
 use mathlib.Core.List.{List, [], ◌∷◌}
 use lib.Dec.{eqb, ltb, leb-zero, leb-suc-suc}
-use lib.ListN.{length, get_or, take, drop, length-drop, drop_of_length-le}
-use lib.Seq.{drop-cons}
+use lib.ListN.{length, get_or, take, drop, length-drop}
 use borrow.Author.Tests.{le-leb, lt-leb, ltb-false, ltb-true, eq-eqb, ne_eqb, eqb-true}
+use Rattle.std.specs.Prelude.{Some, None, is_some, unwrap_or}
 use Rattle.text.specs.Text.{same}
 use Rattle.text.proofs.Laws.{same_unequal}
-use Rattle.topic.specs.Topic.{Level, slash, dollar, extend_first, with_byte, levels, is_only, is_plus, is_hash, metadata, ends, takes_level, takes, dollar_rule, levels_match}
+use Rattle.topic.specs.Topic.{Level, slash, dollar, extend_first, with_byte, levels, is_only, is_plus, is_hash, metadata, ends, takes_level, takes, dollar_rule, levels_match, levels_if, plain_match}
 use Rattle.topic.specs.Walk.{first_level, level_at, level_end, next_level, levels_at, answered, onward, stepped}
 use Rattle.topic.specs.declared.Walk.{Walk}
 
@@ -69,25 +68,21 @@ first_within (b ∷ text) = at (eqb b slash) (first_within text)
     at true h = omega arith
     at false h = omega arith
 
-pub level_within : (text : List ℕ) (at : ℕ) → at ≤ length text → level_end text at ≤ length text
-unfolding level_at level_end
-level_within text at h = omega (arith, first_within (drop at text), length-drop at text)
+-- where a text's first level ends, byte by byte
+pub first_none : length (first_level []) ≡ 0
+unfolding first_level
+first_none = refl
 
--- where a level ends, byte by byte
-pub end_past : (text : List ℕ) (at : ℕ) → length text ≤ at → level_end text at ≡ at
-unfolding level_at level_end first_level
-end_past text at h = rw (drop_of_length-le text {i = at} h) (omega arith)
+pub first_slash : (b : ℕ) (text : List ℕ) → b ≡ slash → length (first_level (b ∷ text)) ≡ 0
+unfolding first_level
+first_slash b text e = rw (eq-eqb b slash e) refl
 
-pub end_slash : (text : List ℕ) (at : ℕ) → at < length text → get_or text at 0 ≡ slash → level_end text at ≡ at
-unfolding level_at level_end first_level
-end_slash text at h e = rw (drop-cons text at 0 h, eq-eqb (get_or text at 0) slash e) (omega arith)
-
-pub end_onward : (text : List ℕ) (at : ℕ) → at < length text → (get_or text at 0 ≡ slash → ⊥) → level_end text at ≡ level_end text (at + 1)
-unfolding level_at level_end first_level
-end_onward text at h e = rw (add-one, drop-cons text at 0 h, ne_eqb (get_or text at 0) slash e) (omega arith)
+pub first_other : (b : ℕ) (text : List ℕ) → (b ≡ slash → ⊥) → length (first_level (b ∷ text)) ≡ length (first_level text) + 1
+unfolding first_level
+first_other b text h = rw (ne_eqb b slash h) (omega arith)
 
 -- the bytes of a level
-first_part : (text : List ℕ) → take (length (first_level text)) text ≡ first_level text
+pub first_part : (text : List ℕ) → take (length (first_level text)) text ≡ first_level text
 unfolding first_level
 first_part [] = refl
 first_part (b ∷ text) = at (eqb b slash) (first_part text)
@@ -96,13 +91,6 @@ first_part (b ∷ text) = at (eqb b slash) (first_part text)
         → take (length (cond e [] (b ∷ first_level text))) (b ∷ text) ≡ cond e [] (b ∷ first_level text)
     at true h = refl
     at false h = ap (λ (l : Level). b ∷ l) h
-
-pub level_part : (text : List ℕ) (at : ℕ) → take (level_end text at - at) (drop at text) ≡ level_at text at
-unfolding level_at level_end
-level_part text at = rw sized (first_part (drop at text))
-  where
-    sized : at + length (first_level (drop at text)) - at ≡ length (first_level (drop at text))
-    sized = omega arith
 
 -- a level of one byte
 pub only_length : (b : ℕ) (level : Level) → (length level ≡ 1 → ⊥) → is_only b level ≡ false
@@ -126,10 +114,10 @@ unfolding metadata
 metadata_first [] h = absurd (h refl)
 metadata_first (b ∷ level) h = refl
 
--- past the text no level begins
-pub level_past : (text : List ℕ) (at : ℕ) → length text < at → level_at text at ≡ []
-unfolding level_at first_level
-level_past text at h = rw (drop_of_length-le text {i = at} (omega arith))
+-- where a level ends, within the text
+pub level_fits : (text : List ℕ) (at : ℕ) → length (level_at text at) ≤ length text - at
+unfolding level_at
+level_fits text at = omega (arith, first_within (drop at text), length-drop at text)
 
 pub end_after : (text : List ℕ) (at : ℕ) → at ≤ level_end text at
 unfolding level_end
@@ -146,20 +134,20 @@ ends_here filter at h = rw (levels_here filter at h)
 
 -- what a walk comes to: its answer, or that of the levels that are left
 unfoldable pub comes_to : List ℕ → List ℕ → Walk → Bool
-comes_to filter text w = cond w.done w.taken (takes (levels_at filter w.filter) (levels_at text w.text))
+comes_to filter text w = unwrap_or w.answer (takes (levels_at filter w.filter) (levels_at text w.text))
 
-pub comes_done : (filter text : List ℕ) (w : Walk) → w.done ≡ true → comes_to filter text w ≡ w.taken
+pub comes_done : (filter text : List ℕ) (w : Walk) {taken : Bool} → w.answer ≡ Some taken → comes_to filter text w ≡ taken
 unfolding comes_to
-comes_done filter text w e = λ i. cond (e i) w.taken (takes (levels_at filter w.filter) (levels_at text w.text))
+comes_done filter text w e = rw e
 
--- what falls with each step of a walk that is not done
+-- what falls with each step of a walk that has no answer
 unfoldable pub left : List ℕ → Walk → ℕ
-left filter w = cond w.done 0 (suc (length filter + 1 - w.filter))
+left filter w = cond (is_some w.answer) 0 (suc (length filter + 1 - w.filter))
 
 -- a step, by its tests
 pub stepped_by :
     (filter text : List ℕ) (w : Walk) {done over short multi taken : Bool} →
-    w.done ≡ done →
+    is_some w.answer ≡ done →
     ltb (length text) w.text ≡ over →
     ltb (length filter) w.filter ≡ short →
     is_hash (level_at filter w.filter) ≡ multi →
@@ -194,7 +182,7 @@ pub record Nearer (filter text : List ℕ) (w v : Walk) : Type 0 where
   pub comes : comes_to filter text v ≡ comes_to filter text w
   pub less : left filter v < left filter w
 
-module _ (filter text : List ℕ) (w : Walk) (d : w.done ≡ false) where
+module _ (filter text : List ℕ) (w : Walk) (d : w.answer ≡ None) where
   abbrev near : Walk → Type 0
   near v = Nearer filter text w v
 
@@ -222,7 +210,7 @@ module _ (filter text : List ℕ) (w : Walk) (d : w.done ≡ false) where
 
   -- a step brings a walk nearer
   pub step_nearer : near (stepped filter text w)
-  step_nearer = subst near (sym (stepped_by filter text w d refl refl refl refl)) (at-text (ltb (length text) w.text) refl)
+  step_nearer = subst near (sym (stepped_by filter text w (ap is_some d) refl refl refl refl)) (at-text (ltb (length text) w.text) refl)
     where
       at-filter : (b : Bool) → ltb (length filter) w.filter ≡ b → w.text ≤ length text
           → near
@@ -253,20 +241,14 @@ metadata_text (b ∷ text) = at (eqb b slash) refl
     at false h = refl
 
 -- the rule for `$`, by its tests
-pub dollar_by :
-    (filter text : List ℕ) {single multi meta : Bool} →
-    is_plus (level_at filter 0) ≡ single →
-    is_hash (level_at filter 0) ≡ multi →
-    metadata text ≡ meta →
-    dollar_rule (levels filter) (levels text) ≡ ((single || multi) && meta)
+pub dollar_first : (filter text : List ℕ)
+    → dollar_rule (levels filter) (levels text) ≡ ((is_plus (level_at filter 0) || is_hash (level_at filter 0)) && metadata text)
 unfolding dollar_rule level_at
-dollar_by filter text s h m = rw (levels_first filter, levels_first text, metadata_text text, s, h, m)
+dollar_first filter text = rw (levels_first filter, levels_first text, metadata_text text) refl
 
--- a match on no levels, and by the rule for `$`
-pub match_nothing : (filter : List ℕ) → levels_match (levels filter) [] ≡ ends (levels filter)
-unfolding levels_match dollar_rule takes ends
-match_nothing filter = rw (levels_first filter)
-
-pub match_by : (filter text : List Level) {b : Bool} → dollar_rule filter text ≡ b → levels_match filter text ≡ (not b && takes filter text)
-unfolding levels_match
-match_by filter text e = λ i. not (e i) && takes filter text
+-- a match of a text that is known to be a valid filter, or known to be none
+pub match_known : (filter text : List ℕ) (valid : Bool)
+    → levels_match (levels filter) (levels_if valid text) ≡ cond valid (plain_match filter text) (ends (levels_at filter 0))
+unfolding levels_if plain_match levels_match dollar_rule takes ends
+match_known filter text true = refl
+match_known filter text false = rw (levels_all filter, levels_first filter) refl

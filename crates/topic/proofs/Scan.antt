@@ -4,12 +4,12 @@ use Prim.Native.Nat.{ℕ, zero, suc, ◌+◌, ◌<◌, ◌≤◌}
 use native.Mathlib.Numerals.{add-one}
 use native.Mathlib.Omega.{arith}
 use mathlib.Core.Path.{◌≡◌, refl, sym, ◌∙◌}
-use mathlib.Core.Bool.{Bool, true, false, ◌&&◌, ◌||◌, cond, true≢false, and-false}
+use mathlib.Core.Bool.{Bool, true, false, ◌&&◌, ◌||◌, not, cond, true≢false, and-false}
 use mathlib.Core.List.{List, [], ◌∷◌}
 use lib.Dec.{eqb, eqb-zero-suc, eqb-suc-suc}
 use lib.ListN.{length, get_or, drop, drop_of_length-le}
 use lib.Seq.{drop-cons}
-use borrow.Author.Tests.{eqb-true, ne_eqb}
+use borrow.Author.Tests.{eqb-true}
 use Rattle.text.specs.Text.{same}
 use Rattle.topic.specs.Topic.{Level, slash, plus, hash, extend_first, with_byte, levels, is_only, is_plus, is_hash, wildcard_free, is_last, valid_levels, valid_filter}
 
@@ -108,37 +108,43 @@ unfolding valid_filter valid_levels valid_from
 scan_valid text = let d = leveled text in rw (leveled_levels d.2) (scan_from d.2 true)
 
 -- what is left of the text, at a place
-pub empty_at : (text : List ℕ) (i : ℕ) → i ≤ length text → is_empty (drop i text) ≡ eqb i (length text)
+empty_at : (text : List ℕ) (i : ℕ) → i ≤ length text → is_empty (drop i text) ≡ eqb i (length text)
 empty_at [] zero h = refl
 empty_at [] (suc i) h = absurd (omega arith)
 empty_at (b ∷ text) zero h = sym (eqb-zero-suc (length text))
 empty_at (b ∷ text) (suc i) h = empty_at text i (omega arith) ∙ sym (eqb-suc-suc i (length text))
 
-pub separated_at : (text : List ℕ) (i : ℕ) → i < length text → separated (drop i text) ≡ eqb (get_or text i 0) slash
-separated_at text i h = rw (drop-cons text i 0 h)
+separated_at : (text : List ℕ) (i : ℕ) → i ≤ length text → separated (drop i text) ≡ (eqb i (length text) || eqb (get_or text i 0) slash)
+separated_at [] zero h = refl
+separated_at [] (suc i) h = absurd (omega arith)
+separated_at (b ∷ text) zero h = rw (eqb-zero-suc (length text)) refl
+separated_at (b ∷ text) (suc i) h = separated_at text i (omega arith) ∙ rw (eqb-suc-suc i (length text)) refl
 
-pub separated_past : (text : List ℕ) (i : ℕ) → length text ≤ i → separated (drop i text) ≡ true
-separated_past text i h = rw (drop_of_length-le text {i = i} h)
+-- the walk's turn at a byte
+scan_byte : (b : ℕ) (text : List ℕ) (starts : Bool)
+    → scan starts (b ∷ text) ≡ cond (eqb b hash) (starts && is_empty text) (cond (eqb b plus && not (starts && separated text)) false (scan (eqb b slash) text))
+unfolding scan
+scan_byte b text starts = at (kind b) starts (separated text)
+  where
+    at : {b : ℕ} → Kind b → (s t : Bool)
+        → cond (eqb b slash) (scan true text) (cond (eqb b hash) (s && is_empty text) (cond (eqb b plus) (s && (t && scan false text)) (scan false text)))
+        ≡ cond (eqb b hash) (s && is_empty text) (cond (eqb b plus && not (s && t)) false (scan (eqb b slash) text))
+    at is_slash_byte s t = refl
+    at is_hash_byte s t = refl
+    at is_plus_byte true true = refl
+    at is_plus_byte true false = refl
+    at is_plus_byte false t = refl
+    at (is_other b e m p) s t = rw (e, m, p) refl
 
--- the walk byte by byte, at a place of the text
-module _ (text : List ℕ) (i : ℕ) (h : i < length text) (starts : Bool) where
-  at_byte : scan starts (drop i text) ≡ scan starts (get_or text i 0 ∷ drop (i + 1) text)
-  at_byte = rw (add-one, drop-cons text i 0 h)
+-- the same at a place of the text, and at its end
+pub scan_at : (text : List ℕ) (i : ℕ) (starts : Bool) → i < length text
+    → scan starts (drop i text)
+    ≡ cond (eqb (get_or text i 0) hash) (starts && eqb (i + 1) (length text))
+    (cond (eqb (get_or text i 0) plus && not (starts && (eqb (i + 1) (length text) || eqb (get_or text (i + 1) 0) slash))) false
+    (scan (eqb (get_or text i 0) slash) (drop (i + 1) text)))
+scan_at text i starts h =
+    rw (add-one, drop-cons text i 0 h, ← separated_at text (suc i) (omega arith), ← empty_at text (suc i) (omega arith)) (scan_byte _ _ _)
 
-  pub scan-slash : get_or text i 0 ≡ slash → scan starts (drop i text) ≡ scan true (drop (i + 1) text)
-  unfolding scan
-  scan-slash e = rw (at_byte, e)
-
-  pub scan-hash : {s : Bool} → get_or text i 0 ≡ hash → starts ≡ s → scan starts (drop i text) ≡ (s && eqb (i + 1) (length text))
-  unfolding scan
-  scan-hash e f = rw (at_byte, e, empty_at text (i + 1) (omega arith)) (λ k. f k && eqb (i + 1) (length text))
-
-  pub scan-plus :
-      {s t : Bool} → get_or text i 0 ≡ plus → starts ≡ s → separated (drop (i + 1) text) ≡ t → scan starts (drop i text) ≡ (s && (t && scan false (drop (i + 1) text)))
-  unfolding scan
-  scan-plus e f g = rw (at_byte, e) (λ k. f k && (g k && scan false (drop (i + 1) text)))
-
-  pub scan_other :
-      (get_or text i 0 ≡ slash → ⊥) → (get_or text i 0 ≡ hash → ⊥) → (get_or text i 0 ≡ plus → ⊥) → scan starts (drop i text) ≡ scan false (drop (i + 1) text)
-  unfolding scan
-  scan_other s m p = rw (at_byte, ne_eqb _ _ s, ne_eqb _ _ m, ne_eqb _ _ p)
+pub scan_end : (text : List ℕ) (i : ℕ) (starts : Bool) → length text ≤ i → scan starts (drop i text) ≡ true
+unfolding scan
+scan_end text i starts h = rw (drop_of_length-le text {i = i} h) refl

@@ -1,5 +1,5 @@
 -- Levels by their places in a text, and the walk of a match over them: document 01, "A match takes one level at a time".
-use Rattle.std.specs.Prelude.{ℕ, ◌+◌, Bool, true, false, cond, List, [], ◌∷◌, eqb, leb, ltb, length, drop}
+use Rattle.std.specs.Prelude.{ℕ, ◌+◌, Bool, true, false, cond, Some, is_some, List, [], ◌∷◌, eqb, leb, ltb, length, drop}
 use Rattle.topic.specs.Topic.{Level, slash, plus, hash, levels, is_hash, ends, takes_level}
 use Rattle.topic.specs.declared.Walk.{Walk}
 
@@ -25,17 +25,17 @@ levels_at text at = cond (leb at (length text)) (levels (drop at text)) []
 
 -- the walk with its answer
 unfoldable pub answered : Walk → Bool → Walk
-answered w taken = record { filter = w.filter; text = w.text; done = true; taken = taken }
+answered w taken = record { filter = w.filter; text = w.text; answer = Some taken }
 
 -- the walk behind one level of the filter and one of the text
 unfoldable pub onward : List ℕ → List ℕ → Walk → Walk
 onward filter text w =
-    record { filter = next_level filter w.filter; text = next_level text w.text; done = w.done; taken = w.taken }
+    record { filter = next_level filter w.filter; text = next_level text w.text; answer = w.answer }
 
--- the walk after one more level; a walk that is done stays as it is
+-- the walk after one more level; a walk that has its answer stays as it is
 unfoldable pub stepped : List ℕ → List ℕ → Walk → Walk
 stepped filter text w =
-    cond w.done w
+    cond (is_some w.answer) w
     (cond (ltb (length text) w.text) (answered w (ends (levels_at filter w.filter)))
     (cond (ltb (length filter) w.filter) (answered w false)
     (cond (is_hash (level_at filter w.filter)) (answered w true)

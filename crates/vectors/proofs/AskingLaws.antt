@@ -1,11 +1,10 @@
 -- The rules of a recorded question in a buffer, and what a question comes to by the tests that the code makes. Assumes nothing.
+use Rattle.std.specs.Prelude.{Option, Some, None}
 use Rattle.std.proofs.Common.{◌≡◌, ℕ, ◌≤◌, Bool, true, false, cond, List, length, take, replicate, sym, ap, ◌∙◌, arith, le-leb}
 use lib.ListN.{length-replicate}
 use borrow.Author.Tests.{lt-leb}
 use Rattle.text.specs.Ascii.{ascii}
 use Rattle.text.specs.Text.{same, fitted, written}
-use Rattle.text.specs.declared.Replaced.{Replaced}
-use Rattle.text.specs.declared.Replaced.TheVariants.{Length, TooLong}
 use Rattle.text.proofs.Laws.{length_told, too_long_told, written-take}
 use Rattle.rule.proofs.DecodeLaws.{written-length}
 use Rattle.store.specs.Opening.{after_open}
@@ -18,14 +17,14 @@ use Rattle.vectors.specs.Fields.{rest, field}
 use Rattle.vectors.specs.Asking.{counts, rule_text, fits, opened, connect_of, subscribe_of, publish_of}
 use Rattle.vectors.specs.Judging.{verdict, is_answer, answered, store_asked, asked}
 
-module _ {answer : Replaced} (rules : List ℕ) (told : answer ≡ fitted (rule_text rules) 512) where
+module _ {answer : Option ℕ} (rules : List ℕ) (told : answer ≡ fitted (rule_text rules) 512) where
   -- rules that don't fit
-  pub rules_over : (store : List ℕ) → answer ≡ TooLong → (false ≡ fits rules) × (store ≡ opened rules store)
+  pub rules_over : (store : List ℕ) → answer ≡ None → (false ≡ fits rules) × (store ≡ opened rules store)
   unfolding fits opened
   rules_over store e = let over = lt-leb (length (rule_text rules)) 512 (too_long_told (rule_text rules) 512 told e) in (sym over, rw over)
 
   -- rules that fit: their text is the front of the buffer
-  module _ {n : ℕ} (after : List ℕ) (w : after ≡ written (rule_text rules) (replicate 512 0)) (e : answer ≡ Length n) where
+  module _ {n : ℕ} (after : List ℕ) (w : after ≡ written (rule_text rules) (replicate 512 0)) (e : answer ≡ Some n) where
     pub rules_room : n ≤ length after
     rules_room = omega (arith, ap length w, written-length (rule_text rules) (replicate 512 0), length-replicate {A = ℕ} 512 0, (length_told (rule_text rules) 512 told e).1)
 

@@ -1,12 +1,11 @@
 -- What a line's fields come to, by the tests that the code makes. Assumes nothing.
+use Rattle.std.specs.Prelude.{Option, None}
 use Rattle.std.proofs.Common.{◌≡◌, ℕ, ◌+◌, ◌<◌, ◌≤◌, Bool, true, false, cond, not, ◌&&◌, eqb, ltb, List, [], ◌∷◌, length, get_or, sym, refl, ap, ◌∙◌, arith, ne_eqb}
 use Rattle.text.specs.Ascii.{ascii}
 use Rattle.text.specs.Text.{same}
 use Rattle.text.proofs.Laws.{same_lengths}
 use Rattle.mqtt_acl.specs.Rules.{flag, yes}
 use Rattle.vectors.specs.declared.judging.Kind.{Kind}
-use Rattle.vectors.specs.declared.judging.Named.{Named}
-use Rattle.vectors.specs.declared.judging.Named.TheVariants.{Nothing}
 use Rattle.vectors.specs.declared.judging.Judged.TheVariants.{Malformed}
 use Rattle.vectors.specs.Fields.{field, is_given, lent, number}
 use Rattle.vectors.specs.Judging.{kind_of, verdict, compared, is_digit, judge_named, judge}
@@ -18,12 +17,12 @@ kind_letter (a ∷ []) l e = ap (λ b. kind_of (b ∷ [])) e
 kind_letter (a ∷ b ∷ word) l e = absurd (omega arith)
 
 pub kind_other : (word : List ℕ) → length word ≡ 1 →
-    (get_or word 0 0 ≡ 86 → ⊥) → (get_or word 0 0 ≡ 84 → ⊥) → (get_or word 0 0 ≡ 80 → ⊥) → (get_or word 0 0 ≡ 74 → ⊥) → (get_or word 0 0 ≡ 76 → ⊥) → (get_or word 0 0 ≡ 82 → ⊥) → (get_or word 0 0 ≡ 73 → ⊥) → (get_or word 0 0 ≡ 81 → ⊥) → (get_or word 0 0 ≡ 67 → ⊥) → kind_of word ≡ Nothing
+    (get_or word 0 0 ≡ 86 → ⊥) → (get_or word 0 0 ≡ 84 → ⊥) → (get_or word 0 0 ≡ 80 → ⊥) → (get_or word 0 0 ≡ 74 → ⊥) → (get_or word 0 0 ≡ 76 → ⊥) → (get_or word 0 0 ≡ 82 → ⊥) → (get_or word 0 0 ≡ 73 → ⊥) → (get_or word 0 0 ≡ 81 → ⊥) → (get_or word 0 0 ≡ 67 → ⊥) → kind_of word ≡ None
 unfolding kind_of same
 kind_other word l v t p j m r i q k = kind_letter word l refl ∙ (rw (ne_eqb _ _ v, ne_eqb _ _ t, ne_eqb _ _ p, ne_eqb _ _ j, ne_eqb _ _ m, ne_eqb _ _ r, ne_eqb _ _ i, ne_eqb _ _ q, ne_eqb _ _ k))
 
 -- a word of another length is none
-pub kind_long : (word : List ℕ) → (length word ≡ 1 → ⊥) → kind_of word ≡ Nothing
+pub kind_long : (word : List ℕ) → (length word ≡ 1 → ⊥) → kind_of word ≡ None
 unfolding kind_of
 kind_long word l = rw (same_lengths word (ascii "V") l, same_lengths word (ascii "T") l, same_lengths word (ascii "P") l, same_lengths word (ascii "J") l, same_lengths word (ascii "L") l, same_lengths word (ascii "R") l, same_lengths word (ascii "I") l, same_lengths word (ascii "Q") l, same_lengths word (ascii "C") l)
 
@@ -77,6 +76,6 @@ flag_back {is = true} e = rw e
 flag_back {is = false} e = rw e
 
 -- the line by what its first field names
-pub judge_by : (line word : List ℕ) {named n : Named} → named ≡ kind_of word → word ≡ field 0 line → named ≡ n → judge line ≡ judge_named line n
+pub judge_by : (line word : List ℕ) {named n : Option Kind} → named ≡ kind_of word → word ≡ field 0 line → named ≡ n → judge line ≡ judge_named line n
 unfolding judge
 judge_by line word e w f = ap (judge_named line) (sym (e ∙ ap kind_of w) ∙ f)

@@ -1,7 +1,6 @@
 -- A recorded question on a store straight from opening: `Q`, question, word and digit of the answer, earlier code, client id, name, password,
 -- address, protocol, topic, QoS or disconnect flag, rules.
-use Rattle.std.specs.Prelude.{ℕ, Bool, cond, List, [], ◌∷◌, length, ◌==◌, nat_le}
-use Rattle.std.proofs.Math.Option.{Option, some}
+use Rattle.std.specs.Prelude.{ℕ, Bool, cond, List, [], ◌∷◌, length, ◌==◌, nat_le, Option, Some}
 use Rattle.text.specs.Ascii.{ascii}
 use Rattle.text.specs.Text.{same, replace}
 use Rattle.rule.specs.Identity.{Client}
@@ -40,7 +39,7 @@ protocol_of line = where_true (is_given (field 9 line)) (digit 1 (field 9 line))
 
 -- the three questions; connect's protocol is always given
 unfoldable pub connect_of : List ℕ → Question
-connect_of line = connect (digit 0 (field 4 line)) (client_of line (some (digit 1 (field 9 line))))
+connect_of line = connect (digit 0 (field 4 line)) (client_of line (Some (digit 1 (field 9 line))))
 
 unfoldable pub subscribe_of : List ℕ → Question
 subscribe_of line = subscribe (digit 0 (field 4 line)) (client_of line (protocol_of line)) (field 10 line) (digit 0 (field 11 line))

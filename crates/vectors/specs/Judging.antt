@@ -1,5 +1,5 @@
 -- What a recorded line means, and whether the definitions of document 01 give its answer.
-use Rattle.std.specs.Prelude.{ℕ, ◌+◌, ◌/◌, ◌%◌, Bool, cond, not, ◌&&◌, List, [], ◌∷◌, replicate}
+use Rattle.std.specs.Prelude.{ℕ, ◌+◌, ◌/◌, ◌%◌, Bool, cond, not, ◌&&◌, List, [], ◌∷◌, replicate, Option, Some, None}
 use Rattle.text.specs.Ascii.{ascii}
 use Rattle.text.specs.Text.{same}
 use Rattle.topic.specs.Topic.{valid_filter, tree_match, plain_match}
@@ -14,18 +14,16 @@ use Rattle.vectors.specs.Asking.{fits, opened, text_in, connect_of, subscribe_of
 use Rattle.vectors.specs.Clients.{client_answer, is_packed}
 use Rattle.vectors.specs.declared.judging.Kind.{Kind}
 use Rattle.vectors.specs.declared.judging.Kind.TheVariants.{Valid, Tree, Plain, Document, Within, RuleLine, Identity, OnStore, Client}
-use Rattle.vectors.specs.declared.judging.Named.{Named}
-use Rattle.vectors.specs.declared.judging.Named.TheVariants.{Of, Nothing}
 use Rattle.vectors.specs.declared.judging.Judged.{Judged}
 use Rattle.vectors.specs.declared.judging.Judged.TheVariants.{Agrees, Differs, Malformed}
 
 -- the kind that the first field names
-unfoldable pub kind_of : List ℕ → Named
+unfoldable pub kind_of : List ℕ → Option Kind
 kind_of word =
-    cond (same word (ascii "V")) (Of Valid)
-    (cond (same word (ascii "T")) (Of Tree)
-    (cond (same word (ascii "P")) (Of Plain)
-    (cond (same word (ascii "J")) (Of Document) (cond (same word (ascii "L")) (Of Within) (cond (same word (ascii "R")) (Of RuleLine) (cond (same word (ascii "I")) (Of Identity) (cond (same word (ascii "Q")) (Of OnStore) (cond (same word (ascii "C")) (Of Client) Nothing))))))))
+    cond (same word (ascii "V")) (Some Valid)
+    (cond (same word (ascii "T")) (Some Tree)
+    (cond (same word (ascii "P")) (Some Plain)
+    (cond (same word (ascii "J")) (Some Document) (cond (same word (ascii "L")) (Some Within) (cond (same word (ascii "R")) (Some RuleLine) (cond (same word (ascii "I")) (Some Identity) (cond (same word (ascii "Q")) (Some OnStore) (cond (same word (ascii "C")) (Some Client) None))))))))
 
 abbrev pub verdict : Kind → Bool → Judged
 verdict kind agrees = cond agrees (Agrees kind) (Differs kind)
@@ -77,9 +75,9 @@ asked line OnStore = store_asked line
 asked line Client = verdict Client (is_packed (client_answer line) (field 1 line))
 
 -- what a line comes to
-unfoldable pub judge_named : List ℕ → Named → Judged
-judge_named line (Of kind) = asked line kind
-judge_named line Nothing = Malformed
+unfoldable pub judge_named : List ℕ → Option Kind → Judged
+judge_named line (Some kind) = asked line kind
+judge_named line None = Malformed
 
 unfoldable pub judge : List ℕ → Judged
 judge line = judge_named line (kind_of (field 0 line))

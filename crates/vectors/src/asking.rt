@@ -5,7 +5,6 @@ ghost use Rattle.questions.specs.Decision.{ask};
 ghost use Rattle.vectors.specs.Asking as spec;
 
 use crate::fields::{digit, field, flag, given_flag, lent};
-use text::Replaced;
 
 // The store of a question: R 512, F, E and N 1.
 pub const STORE: usize = 1374;
@@ -18,7 +17,7 @@ pub fn open_rules(rules: &[u8], store: &mut [u8]) -> bool
     ensures store_after { store.new ≡ spec.opened rules.now store.old }
 {
     let mut lines = [0u8; RULES];
-    let Replaced::Length(n) = text::replace(rules, b"|", b"\n", &mut lines) else {
+    let Some(n) = text::replace(rules, b"|", b"\n", &mut lines) else {
         return false;
     };
     mqtt_acl::mqtt_acl_open(store, RULES as u64, 1, 1, 1, &lines[..n]);

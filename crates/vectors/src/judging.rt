@@ -24,13 +24,6 @@ pub enum Kind {
     Client,
 }
 
-// What the first field of a line names.
-#[derive(Clone, Copy)]
-pub enum Named {
-    Of(Kind),
-    Nothing,
-}
-
 // What a line comes to.
 #[derive(Clone, Copy)]
 pub enum Judged {
@@ -40,23 +33,23 @@ pub enum Judged {
 }
 
 // The kind that the first field of a line names.
-fn kind_of(word: &[u8]) -> Named
+fn kind_of(word: &[u8]) -> Option<Kind>
     ensures { result ≡ spec.kind_of word.now }
 {
     if word.len() != 1 {
-        return Named::Nothing;
+        return None;
     }
     match word[0] {
-        b'V' => Named::Of(Kind::Valid),
-        b'T' => Named::Of(Kind::Tree),
-        b'P' => Named::Of(Kind::Plain),
-        b'J' => Named::Of(Kind::Document),
-        b'L' => Named::Of(Kind::Within),
-        b'R' => Named::Of(Kind::RuleLine),
-        b'I' => Named::Of(Kind::Identity),
-        b'Q' => Named::Of(Kind::OnStore),
-        b'C' => Named::Of(Kind::Client),
-        _ => Named::Nothing,
+        b'V' => Some(Kind::Valid),
+        b'T' => Some(Kind::Tree),
+        b'P' => Some(Kind::Plain),
+        b'J' => Some(Kind::Document),
+        b'L' => Some(Kind::Within),
+        b'R' => Some(Kind::RuleLine),
+        b'I' => Some(Kind::Identity),
+        b'Q' => Some(Kind::OnStore),
+        b'C' => Some(Kind::Client),
+        _ => None,
     }
 }
 
@@ -212,8 +205,8 @@ pub fn judge(line: &[u8]) -> Judged
     ensures { result ≡ spec.judge line.now }
 {
     match kind_of(field(line, 0)) {
-        Named::Nothing => Judged::Malformed,
-        Named::Of(kind) => match kind {
+        None => Judged::Malformed,
+        Some(kind) => match kind {
             Kind::Valid => valid_line(line),
             Kind::Tree => tree_line(line),
             Kind::Plain => plain_line(line),

@@ -1,35 +1,25 @@
--- The loop's invariant: no byte from `i` on is special exactly if none is. The measure is what is left. Assumes nothing.
-use native.Mathlib.Omega.{arith}
-use mathlib.Core.Path.{refl, sym, ap, ◌∙◌}
-use mathlib.Core.Bool.{Bool, ◌&&◌, not, and-false}
-use Rattle.topic.specs.Topic.{metadata}
-use Rattle.hosting.specs.Hosting.{no_special, plain_name}
-use Rattle.hosting.proofs.HostingLaws.{special_found, special_passed, special_end, begins_dollar}
+-- `hosting::plain_name` meets its contract: by its two tests. Assumes nothing.
+use mathlib.Core.Path.{sym, ap, ◌∙◌}
+use mathlib.Core.Bool.{Bool, ◌&&◌, not}
+use borrow.Author.Rules.{rules}
+use borrow.Author.Tests.{tests}
+use Rattle.std.proofs.lemmas.Iterator.{YieldsList-from_slice}
+use Rattle.std.proofs.lemmas.Iterator.Search.{all_from_yields_List}
+use Rattle.hosting.specs.Hosting.{is_special, no_special, plain_name}
+use Rattle.hosting.proofs.HostingLaws.{special_all, starts_dollar}
 use Rattle.hosting.proofs.plain_name.Goals as goal
 
-pub returns-then-begins : goal.returns-then-begins
+pub returns-then-not-starts_with : goal.returns-then-not-starts_with
 unfolding plain_name
-returns-then-begins c =
-    let dollar = sym (begins_dollar c.args.name.now) ∙ (sym c.begins.ensures ∙ c.if-begins.true) in
-    sym (ap (λ (b : Bool). not b && no_special c.args.name.now) dollar)
+returns-then-not-starts_with c =
+    let name = c.args.name.now in
+    let dollar = sym (starts_dollar name) ∙ sym c.starts_with.ensures.value ∙ c.if-not-starts_with.true in
+    all_from_yields_List (λ b. not (is_special b)) _ _ c.all.result c.all.ensures.ran (YieldsList-from_slice name c.iter.ensures.rest) (λ x b q k. search (rules, tests))
+    ∙ special_all name ∙ sym (ap (λ (b : Bool). not b && no_special name) dollar)
 
-pub loop-i-init : goal.loop-i-init
-loop-i-init c =
-    refl
-
-pub returns-then-is_special : goal.returns-then-is_special
+pub returns-else-not-starts_with : goal.returns-else-not-starts_with
 unfolding plain_name
-returns-then-is_special c =
-    let found = special_found c.args.name.now c.loop-i.i (omega arith) (sym c.is_special.ensures ∙ c.if-is_special.true) in
-    sym (ap (λ (b : Bool). not (metadata c.args.name.now) && b) (sym c.loop-i.invariant ∙ found) ∙ and-false (not (metadata c.args.name.now)))
-
-pub loop-i-preserved : goal.loop-i-preserved
-loop-i-preserved c =
-    sym (special_passed c.args.name.now c.loop-i.i (omega arith) (sym c.is_special.ensures ∙ c.if-is_special.false)) ∙ c.loop-i.invariant
-
-pub returns : goal.returns
-unfolding plain_name
-returns c =
-    let dollar = sym (begins_dollar c.args.name.now) ∙ (sym c.begins.ensures ∙ c.if-begins.false) in
-    let end = sym c.loop-i.invariant ∙ special_end c.args.name.now c.loop-i.i (omega arith) in
-    sym (λ i. not (dollar i) && end i)
+returns-else-not-starts_with c =
+    let name = c.args.name.now in
+    let dollar = sym (starts_dollar name) ∙ sym c.starts_with.ensures.value ∙ c.if-not-starts_with.false in
+    ap not c.if-not-starts_with.false ∙ sym (ap (λ (b : Bool). not b && no_special name) dollar)

@@ -1,34 +1,24 @@
--- `table::number_at` meets its contract: a byte is below 256, so that neither the product nor the sum wraps. Assumes nothing.
-use Prim.Native.Nat.{◌+◌}
-use mathlib.Core.Path.{sym}
+-- `table::number_at` meets its contract: what `get` gives are the bytes from `at` on, and none are missing beyond the end. Assumes nothing.
+use mathlib.Core.Path.{sym, ◌∙◌}
 use native.Mathlib.Omega.{arith}
-use Rattle.table.proofs.ByteLaws.{number_missing, number_low, number-drop}
+use borrow.Author.Rules.{part_to_end}
+use Rattle.table.proofs.ByteLaws.{number_missing, number_short, number_bytes}
 use Rattle.table.proofs.number_at.Goals as goal
 
-pub returns-then-bytes-at : goal.returns-then-bytes-at
-returns-then-bytes-at c =
-    sym (number_missing c.args.bytes.now c.args.at (omega arith))
+pub returns-in-Some-len1 : goal.returns-in-Some-len1
+returns-in-Some-len1 c =
+    let part = rw part_to_end at c.in-Some-len1.ensures.lookup.0.2 in
+    rw (← part) (sym (number_short c.in-Some-len1.field-0.now (omega arith)))
 
-pub overflow_cast-low : goal.overflow_cast-low
-overflow_cast-low c =
-    omega (arith, c.shared_slice_known-1.given c.args.at)
+pub returns-in-Some-len2-up : goal.returns-in-Some-len2-up
+returns-in-Some-len2-up c =
+    let part = rw part_to_end at c.in-Some-len2-up.ensures.lookup.0.2 in
+    rw (← part) (c.from_le_bytes.ensures ∙ number_bytes c.in-Some-len2-up.field-0.now)
 
-pub returns-then-bytes-next : goal.returns-then-bytes-next
-returns-then-bytes-next c =
-    sym (number_low c.args.bytes.now c.args.at (omega arith))
+pub returns-in-Some-empty : goal.returns-in-Some-empty
+returns-in-Some-empty c =
+    sym (number_missing c.args.bytes.now c.args.at (omega (arith, c.in-Some-empty.ensures.lookup.0.3)))
 
-pub overflow_cast-result : goal.overflow_cast-result
-overflow_cast-result c =
-    omega (arith, c.shared_slice_known-2-1.given (c.args.at + 1))
-
-pub overflow_mul-result : goal.overflow_mul-result
-overflow_mul-result c =
-    omega (arith, c.shared_slice_known-2-1.given (c.args.at + 1))
-
-pub overflow_add-result : goal.overflow_add-result
-overflow_add-result c =
-    omega (arith, c.shared_slice_known-2-1.given c.args.at, c.shared_slice_known-2-1.given (c.args.at + 1))
-
-pub returns : goal.returns
-returns c =
-    sym (number-drop c.args.bytes.now c.args.at)
+pub returns-in-None : goal.returns-in-None
+returns-in-None c =
+    sym (number_missing c.args.bytes.now c.args.at (omega (arith, c.in-None.ensures.lookup.0)))

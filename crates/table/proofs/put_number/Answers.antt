@@ -1,21 +1,9 @@
--- `table::put_number` meets its contract: without room for both bytes nothing is written. Assumes nothing.
-use mathlib.Core.Path.{sym}
-use native.Mathlib.Omega.{arith}
-use Rattle.table.specs.Bytes.{u16}
-use Rattle.text.proofs.Laws.{pasted_not}
-use Rattle.table.proofs.ByteLaws.{put_u16}
+-- `table::put_number` meets its contract: the bytes of the number are pasted. Assumes nothing.
+use mathlib.Core.Path.{ap, ◌∙◌}
+use Rattle.text.specs.Text.{pasted}
+use Rattle.table.proofs.ByteLaws.{u16_bytes}
 use Rattle.table.proofs.put_number.Goals as goal
-
-pub returns-then-bytes-at : goal.returns-then-bytes-at
-unfolding u16
-returns-then-bytes-at c =
-    sym (pasted_not c.args.at (u16 c.args.n) c.args.bytes.now (omega arith))
-
-pub returns-then-bytes-next : goal.returns-then-bytes-next
-unfolding u16
-returns-then-bytes-next c =
-    sym (pasted_not c.args.at (u16 c.args.n) c.args.bytes.now (omega arith))
 
 pub returns : goal.returns
 returns c =
-    put_u16 c.args.bytes.now c.args.at c.args.n (omega arith)
+    c.paste.ensures.buffer_after ∙ ap (λ b. pasted c.args.at b c.args.bytes.now) (c.to_le_bytes.ensures ∙ u16_bytes c.args.n c.ranges.n.fits)

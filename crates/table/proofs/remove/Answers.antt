@@ -1,30 +1,36 @@
 -- `table::remove` meets its contract. The loop's invariant, `Removing`: the rows passed that stay are closed up to before `to`, and from `from`
--- on the table is as it was. The measure is what is left of `used`. Assumes nothing.
+-- on the table is as it was. Assumes nothing.
 use Prim.Native.Nat.{◌-◌}
 use mathlib.Core.Path.{sym, ◌∙◌}
+use native.Mathlib.Nat.{add-sub_cancel_left}
 use native.Mathlib.Omega.{arith}
-use Rattle.table.proofs.RowLaws.{rows_short, rows_end, removing_none, removing_marked, removing_moved, removing_end}
+use Rattle.table.proofs.RowLaws.{rows_short, rows_end, removing_none, removing_apart, removing_gone, removing_moved, removing_here, removing_end}
 use Rattle.table.proofs.remove.Goals as goal
-use Rattle.table.proofs.remove.Goals.{then-is_marked, else-is_marked}
+use Rattle.table.proofs.remove.Goals.{then-not-goes, then-to-from, else-to-from, else-not-goes, else-loop-test, then-loop-test+then-table-from}
 
-pub loop-i-init : goal.loop-i-init
-loop-i-init c =
+pub loop-init : goal.loop-init
+loop-init g c =
     removing_none _ _ _ _
 
-pub returns-then-table-from : goal.returns-then-table-from
-returns-then-table-from c =
-    let short = rows_short c.args.size (c.args.used - c.loop-i.i) c.loop-i.from c.args.table.now (omega arith) in
-    let end = removing_end c.loop-i.invariant short in
-    record { value = end.0; table_after = c.clear.ensures ∙ end.1 }
+pub move_row-requires-clause-apart : goal.move_row-requires-clause-apart
+move_row-requires-clause-apart g c =
+    removing_apart c.loop.invariant c.if-to-from.true
 
-pub loop-i-preserved : goal.loop-i-preserved
-loop-i-preserved c =
-    elim c.if-is_marked.branch [
-      | then-is_marked w ↦ rw (w.table-is, w.from-is, w.to-is, w.stay-is) (removing_marked c.loop-i.invariant c.loop-i-test.true (omega arith) (sym c.is_marked.ensures ∙ w.if-is_marked.true))
-      | else-is_marked w ↦ rw (w.table-is, w.move_row.ensures, w.from-is, w.to-is, w.stay-is) (removing_moved c.loop-i.invariant c.loop-i-test.true (omega arith) (sym c.is_marked.ensures ∙ w.if-is_marked.false))
+pub loop-preserved : goal.loop-preserved
+loop-preserved g c =
+    let told = rw add-sub_cancel_left at c.goes.ensures in
+    elim c.if-not-goes.branch [
+      | then-not-goes w ↦ elim w.if-to-from.branch [
+        | then-to-from w' ↦ rw (w.table-is, w'.table-is, w'.move_row.ensures, w.to-is, w.stay-is) (removing_moved c.loop.invariant c.loop-test.true (omega arith) (sym told ∙ w.if-not-goes.true))
+        | else-to-from w' ↦ rw (w.table-is, w'.table-is, w.to-is, w.stay-is) (removing_here c.loop.invariant c.loop-test.true (omega arith) w'.if-to-from.false (sym told ∙ w.if-not-goes.true))
+      ]
+      | else-not-goes w ↦ rw (w.table-is, w.to-is, w.stay-is) (removing_gone c.loop.invariant c.loop-test.true (omega arith) (sym told ∙ w.if-not-goes.false))
     ]
 
 pub returns : goal.returns
-returns c =
-    let end = removing_end c.loop-i.invariant (rows_end _ _ _ _ c.loop-i-test.false) in
-    record { value = end.0; table_after = c.clear-2.ensures ∙ end.1 }
+returns g c =
+    let end = removing_end c.loop.invariant (elim c.loop-test.branch [
+      | else-loop-test w ↦ rows_end _ _ _ _ w.loop-test.false
+      | then-loop-test+then-table-from w ↦ rows_short c.args.size (c.args.used - c.loop.counter) c.loop.from c.args.table.now (omega (arith, c.loop.invariant.lengths, w.if-table-from.true))
+    ]) in
+    record { value = end.0; table_after = c.clear.ensures ∙ end.1 }

@@ -1,5 +1,5 @@
 -- The loop's invariant: what the walk comes to is what the levels come to. The measure is what is left of the filter while the walk
--- is not done. Assumes nothing.
+-- has no answer. Assumes nothing.
 use mathlib.Core.Path.{◌≡◌}
 use Rattle.topic.specs.Topic.{levels, takes}
 use Rattle.topic.proofs.Places.{comes_to, left}

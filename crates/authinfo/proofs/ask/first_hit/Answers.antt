@@ -1,72 +1,48 @@
--- The loop's invariant: the answer from line `n` on, which begins at `at`, behind what was found is that of the text, and no more lines than
--- bytes were passed. The measure is what is left of the text. Assumes nothing.
-use mathlib.Core.Path.{◌≡◌, refl, sym, ap, ◌∙◌}
-use Prim.Native.Nat.{ℕ, ◌+◌, ◌-◌}
+-- The loop's invariant: the answer from the next line on, behind what was found, is that of the text. Assumes nothing.
+use Rattle.std.specs.Prelude.{Err}
+use Rattle.std.proofs.Common.{rules}
 use native.Mathlib.Omega.{arith}
-use lib.ListN.{take, drop}
-use Rattle.json_text.specs.Lines.{lines, next_line}
-use Rattle.json_text.proofs.LineLaws.{lines_past, line_part, line_within, next_after, next_from_end}
-use Rattle.rule.specs.Places.{given}
+use mathlib.Core.Path.{◌≡◌, refl, sym, ap, ◌∙◌}
+use Prim.Native.Nat.{◌+◌}
+use lib.ListN.{length}
+use Rattle.json_text.specs.Lines.{lines}
+use Rattle.json_text.proofs.LineLaws.{lines_most}
 use Rattle.authinfo.specs.Places.{question_of}
-use Rattle.authinfo.specs.declared.FirstHit.TheVariants.{NoRule}
-use Rattle.authinfo.specs.declared.LineRead.{LineRead}
+use Rattle.authinfo.proofs.ReadingLaws.{passed_on, mapped_err, mapped_ok}
 use Rattle.authinfo.proofs.AskLaws.{from, on_line, on_line_lem, from_first}
 use Rattle.authinfo.proofs.ask.first_hit.Goals as goal
 
-pub loop-at-init : goal.loop-at-init
-loop-at-init c =
-    (omega arith, refl)
+pub loop-line-init : goal.loop-line-init
+loop-line-init c =
+    let whole : c.into_iter-line-iterator.result.rest.now ≡ c.args.rules.now = cc (c.into_iter-line-iterator.ensures.into_iter_gives, c.new-line-items.ensures) in
+    (tt, tt, record { all = rw whole (omega arith); told = rw whole refl })
 
-pub slice_bounds-line_says-count : goal.slice_bounds-line_says-count
-slice_bounds-line_says-count c =
-    omega (arith, c.line_end-end.ensures)
+pub overflow_add-n : goal.overflow_add-n
+overflow_add-n c =
+    omega (arith, c.loop-line.invariant.2.all, ap length c.in-Some.ensures.steps, lines_most c.args.rules.now)
 
-pub slice_bounds-line_says-start : goal.slice_bounds-line_says-start
-slice_bounds-line_says-start c =
-    omega (arith, c.line_end-end.ensures)
-
-pub slice_bounds-line_says-end : goal.slice_bounds-line_says-end
-slice_bounds-line_says-end c =
-    omega (arith, c.line_end-end.ensures, line_within c.args.rules.now c.loop-at.at (omega arith))
-
-pub returns-in-Refused : goal.returns-in-Refused
+pub returns-in_err-said : goal.returns-in_err-said
 unfolding on_line
-returns-in-Refused c =
-    let by_line : (read : LineRead) →
-    let q = question_of c.args.asked c.args.topic.now in
-    let name = given c.args.name c.args.names.now in
-    c.line_says.result ≡ read → on_line q c.args.id.now name c.loop-at.found c.loop-at.n (lines (drop (next_line c.args.rules.now c.loop-at.at) c.args.rules.now)) read
-    ≡ from q c.args.id.now name NoRule 1 (lines c.args.rules.now) = λ read e. let line = ap (λ (end : ℕ). take (end - c.loop-at.at) (drop c.loop-at.at c.args.rules.now)) c.line_end-end.ensures ∙ line_part c.args.rules.now c.loop-at.at in
-    sym
-    (on_line_lem (question_of c.args.asked c.args.topic.now) c.args.id.now (given c.args.name c.args.names.now) c.args.rules.now c.loop-at.found c.loop-at.n c.loop-at.at c.loop-at-test.true line c.line_says.ensures e)
-    ∙ c.loop-at.invariant.1 in
-    by_line _ c.in-Refused.is
-    ∙ from_first (question_of c.args.asked c.args.topic.now) c.args.id.now (given c.args.name c.args.names.now) (lines c.args.rules.now)
+returns-in_err-said c =
+    let made = mapped_err c.line_says.result c.map_err.result _ c.map_err.ensures.cases c.in_err-said.was in
+    let fault : c.in_err-said.field-0.0 ≡ record { cause = made.0; line = c.loop-line.n + 1 } = search rules in
+    passed_on c.from_residual.result c.from_residual.ensures.1 ∙ (ap Err fault
+    ∙ (sym (on_line_lem (question_of c.args.asked c.args.topic.now) c.args.client.now.id c.args.client.now.name c.loop-line.found (c.loop-line.n + 1) c.in-Some.ensures.steps c.line_says.ensures made.1) ∙ (c.loop-line.invariant.2.told ∙ from_first (question_of c.args.asked c.args.topic.now) c.args.client.now.id c.args.client.now.name (lines c.args.rules.now))))
 
-pub loop-at-smaller : goal.loop-at-smaller
-loop-at-smaller c =
-    let next : c.line_behind-at.result ≡ next_line c.args.rules.now c.loop-at.at = next_from_end c.args.rules.now c.loop-at.at c.line_end-end.ensures c.line_behind-at.ensures in
-    omega (arith, next, next_after c.args.rules.now c.loop-at.at c.loop-at-test.true)
-
-pub loop-at-preserved : goal.loop-at-preserved
+pub loop-line-preserved : goal.loop-line-preserved
 unfolding on_line
-loop-at-preserved c =
-    let next : c.line_behind-at.result ≡ next_line c.args.rules.now c.loop-at.at = next_from_end c.args.rules.now c.loop-at.at c.line_end-end.ensures c.line_behind-at.ensures in
-    let by_line : (read : LineRead) →
-    let q = question_of c.args.asked c.args.topic.now in
-    let name = given c.args.name c.args.names.now in
-    c.line_says.result ≡ read → on_line q c.args.id.now name c.loop-at.found c.loop-at.n (lines (drop (next_line c.args.rules.now c.loop-at.at) c.args.rules.now)) read
-    ≡ from q c.args.id.now name NoRule 1 (lines c.args.rules.now) = λ read e. let line = ap (λ (end : ℕ). take (end - c.loop-at.at) (drop c.loop-at.at c.args.rules.now)) c.line_end-end.ensures ∙ line_part c.args.rules.now c.loop-at.at in
-    sym
-    (on_line_lem (question_of c.args.asked c.args.topic.now) c.args.id.now (given c.args.name c.args.names.now) c.args.rules.now c.loop-at.found c.loop-at.n c.loop-at.at c.loop-at-test.true line c.line_says.ensures e)
-    ∙ c.loop-at.invariant.1 in (
-      omega (arith, c.loop-at.invariant.0, next, next_after c.args.rules.now c.loop-at.at c.loop-at-test.true),
-      (λ i. from (question_of c.args.asked c.args.topic.now) c.args.id.now (given c.args.name c.args.names.now) (c.or_hit-found.ensures i) (c.loop-at.n + 1) (lines (drop (next i) c.args.rules.now)))
-          ∙ by_line _ c.in-Says.is,
+loop-line-preserved c =
+    let said = mapped_ok c.line_says.result c.map_err.result _ c.map_err.ensures.cases c.in_ok-said.was in (
+      tt,
+      tt,
+      record {
+        all = omega (arith, c.loop-line.invariant.2.all, ap length c.in-Some.ensures.steps);
+        told = (λ i. from (question_of c.args.asked c.args.topic.now) c.args.client.now.id c.args.client.now.name (c.or_hit-found.ensures i) (c.loop-line.n + 1 + 1) (lines c.next.new.self.rest.now))
+            ∙ (sym (on_line_lem (question_of c.args.asked c.args.topic.now) c.args.client.now.id c.args.client.now.name c.loop-line.found (c.loop-line.n + 1) c.in-Some.ensures.steps c.line_says.ensures said) ∙ c.loop-line.invariant.2.told);
+      },
     )
 
 pub returns : goal.returns
 unfolding from
 returns c =
-    sym (ap (from (question_of c.args.asked c.args.topic.now) c.args.id.now (given c.args.name c.args.names.now) c.loop-at.found c.loop-at.n) (lines_past c.args.rules.now c.loop-at.at c.loop-at-test.false))
-    ∙ (c.loop-at.invariant.1 ∙ from_first (question_of c.args.asked c.args.topic.now) c.args.id.now (given c.args.name c.args.names.now) (lines c.args.rules.now))
+    sym (ap (from (question_of c.args.asked c.args.topic.now) c.args.client.now.id c.args.client.now.name c.loop-line.found (c.loop-line.n + 1)) c.in-None.ensures.steps.0) ∙ (c.loop-line.invariant.2.told ∙ from_first (question_of c.args.asked c.args.topic.now) c.args.client.now.id c.args.client.now.name (lines c.args.rules.now))

@@ -4,7 +4,6 @@ use native.Mathlib.Omega.{arith}
 use borrow.Author.Rules.{part_to_end}
 use Rattle.text.specs.Ascii.{ascii}
 use Rattle.text.proofs.Laws.{begins-length}
-use Rattle.rule.specs.Places.{given}
 use Rattle.authinfo.proofs.FillingLaws.{topic_eq, topic_empty, topic_filter}
 use Rattle.authinfo.proofs.filling.configured.Goals as goal
 
@@ -18,12 +17,12 @@ slice_bounds-filled-start c =
 
 pub returns-then-begins : goal.returns-then-begins
 returns-then-begins c =
-    rw part_to_end at c.filled.ensures ∙ sym (topic_eq c.args.topic.now c.args.id.now (given c.args.name c.args.names.now) c.args.text.now (sym c.begins.ensures ∙ c.if-begins.true))
+    rw part_to_end at c.filled.ensures ∙ sym (topic_eq c.args.topic.now c.args.client.now.id c.args.client.now.name c.args.text.now (sym c.begins.ensures ∙ c.if-begins.true))
 
 pub returns-then-text-eq0 : goal.returns-then-text-eq0
 returns-then-text-eq0 c =
-    sym (topic_empty c.args.topic.now c.args.id.now (given c.args.name c.args.names.now) c.args.text.now (sym c.begins.ensures ∙ c.if-begins.false) c.if-text-eq0.true)
+    sym (topic_empty c.args.topic.now c.args.client.now.id c.args.client.now.name c.args.text.now (sym c.begins.ensures ∙ c.if-begins.false) c.if-text-eq0.true)
 
 pub returns : goal.returns
 returns c =
-    c.filled-2.ensures ∙ sym (topic_filter c.args.topic.now c.args.id.now (given c.args.name c.args.names.now) c.args.text.now (sym c.begins.ensures ∙ c.if-begins.false) c.if-text-eq0.false)
+    c.filled-2.ensures ∙ sym (topic_filter c.args.topic.now c.args.client.now.id c.args.client.now.name c.args.text.now (sym c.begins.ensures ∙ c.if-begins.false) c.if-text-eq0.false)

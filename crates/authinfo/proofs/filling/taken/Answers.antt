@@ -1,7 +1,7 @@
 -- Each return has the tests that led there. Assumes nothing.
+use Rattle.std.specs.Prelude.{Ok}
 use mathlib.Core.Path.{sym, ap, ◌∙◌}
 use native.Mathlib.Omega.{arith}
-use Rattle.authinfo.specs.declared.TopicRead.TheVariants.{Takes}
 use Rattle.authinfo.proofs.FillingLaws.{taken_long, taken_eq, taken_none, taken_filter}
 use Rattle.authinfo.proofs.filling.taken.Goals as goal
 
@@ -11,7 +11,7 @@ returns-then-filled-gt-TEXT c =
 
 pub returns-then-eq : goal.returns-then-eq
 returns-then-eq c =
-    ap Takes c.same.ensures ∙ sym (taken_eq c.args.topic.now c.args.filled.now c.args.eq (omega arith) c.if-eq.true)
+    ap Ok c.same.ensures ∙ sym (taken_eq c.args.topic.now c.args.filled.now c.args.eq (omega arith) c.if-eq.true)
 
 pub returns-then-not-valid_filter : goal.returns-then-not-valid_filter
 returns-then-not-valid_filter c =
@@ -19,5 +19,5 @@ returns-then-not-valid_filter c =
 
 pub returns : goal.returns
 returns c =
-    ap Takes c.plain_match.ensures
+    ap Ok c.plain_match.ensures
     ∙ sym (taken_filter c.args.topic.now c.args.filled.now c.args.eq (omega arith) c.if-eq.false (sym c.valid_filter.ensures ∙ c.if-not-valid_filter.false))

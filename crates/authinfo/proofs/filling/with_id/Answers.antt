@@ -14,20 +14,20 @@ returns-then-not-held c =
 
 pub slice_bounds-filled-end : goal.slice_bounds-filled-end
 slice_bounds-filled-end c =
-    put_room (replace clientid c.args.id.now c.args.before.now) (replicate 256 0) c.replace.ensures.value c.replace.ensures.buffer_after c.in-Length.is
+    put_room (replace clientid c.args.id.now c.args.before.now) (replicate 256 0) c.replace.ensures.value c.replace.ensures.buffer_after c.in-Some.is
 
 pub slice_bounds-taken-end : goal.slice_bounds-taken-end
 slice_bounds-taken-end c =
-    sym (length-take-le c.in-Length.n _ (put_room (replace clientid c.args.id.now c.args.before.now) (replicate 256 0) c.replace.ensures.value c.replace.ensures.buffer_after c.in-Length.is))
+    sym (length-take-le c.in-Some.n _ (put_room (replace clientid c.args.id.now c.args.before.now) (replicate 256 0) c.replace.ensures.value c.replace.ensures.buffer_after c.in-Some.is))
 
-pub returns-in-TooLong : goal.returns-in-TooLong
-returns-in-TooLong c =
-    let long = too_long_told (replace clientid c.args.id.now c.args.before.now) 256 c.replace.ensures.value c.in-TooLong.is in
+pub returns-in-None : goal.returns-in-None
+returns-in-None c =
+    let long = too_long_told (replace clientid c.args.id.now c.args.before.now) 256 c.replace.ensures.value c.in-None.is in
     sym (taken_same c.args.topic.now c.args.eq (id_held c.args.id.now c.args.before.now c.if-not-held.false)
     ∙ taken_long c.args.topic.now (replace clientid c.args.id.now c.args.before.now) c.args.eq long)
 
-pub returns-in-Length : goal.returns-in-Length
-returns-in-Length c =
-    let front = put_front (replace clientid c.args.id.now c.args.before.now) (replicate 256 0) c.replace.ensures.value c.replace.ensures.buffer_after c.in-Length.is in
-    c.taken-in-Length.ensures
+pub returns-in-Some : goal.returns-in-Some
+returns-in-Some c =
+    let front = put_front (replace clientid c.args.id.now c.args.before.now) (replicate 256 0) c.replace.ensures.value c.replace.ensures.buffer_after c.in-Some.is in
+    c.taken-in-Some.ensures
     ∙ taken_same c.args.topic.now c.args.eq (front ∙ sym (id_held c.args.id.now c.args.before.now c.if-not-held.false))

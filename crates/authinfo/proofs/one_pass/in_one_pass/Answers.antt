@@ -1,13 +1,14 @@
 -- The loop's invariant: what was told so far is told by the members before `i`. The measure is what is left of the line. Assumes nothing.
+use Rattle.std.specs.Prelude.{Some}
+use Rattle.std.proofs.lemmas.Option.{MatchOption-at_some}
 use Prim.Native.Nat.{◌+◌, ◌-◌}
 use native.Mathlib.Omega.{arith}
-use mathlib.Core.Path.{sym, ◌∙◌}
-use lib.ListN.{take, drop}
+use mathlib.Core.Path.{refl, sym, ◌∙◌, ap}
 use Rattle.json_text.proofs.ScanLaws.{at_within}
-use Rattle.json_text.proofs.PlainLaws.{Plain, plain_string}
+use Rattle.json_text.proofs.PlainLaws.{plain_string}
 use Rattle.rule.specs.OnePass.{PartTo}
 use Rattle.rule.proofs.MemberLaws.{object_opens}
-use Rattle.rule.proofs.OnePassLaws.{answered, MemberAt, member_read, member_forward}
+use Rattle.rule.proofs.OnePassLaws.{member_read, member_forward}
 use Rattle.authinfo.proofs.OnePassLaws.{none_passed, passed_more, line_passed}
 use Rattle.authinfo.proofs.one_pass.in_one_pass.Goals as goal
 
@@ -17,60 +18,53 @@ overflow_add-first c =
 
 pub loop-i-init : goal.loop-i-init
 loop-i-init c =
-    none_passed c.args.line.now c.skip_blanks-first.result c.no_parts-found.ensures (object_opens c.args.line.now _ (sym c.kind_at.ensures ∙ c.in-Object.is)) c.skip_blanks-i.ensures
+    none_passed c.args.line.now c.skip_blanks-first.result refl (object_opens c.args.line.now _ (sym c.kind_at.ensures ∙ c.in-Object.is)) c.skip_blanks-i.ensures
 
 pub overflow_add-end : goal.overflow_add-end
 overflow_add-end c =
-    let named : Plain c.args.line.now c.loop-i.i c.in-At.end = plain_string c.args.line.now c.loop-i.i (sym c.plain_text.ensures ∙ c.in-At.is) in
-    let n = named in omega arith
+    let named = plain_string c.args.line.now c.loop-i.i (sym c.plain_text.ensures ∙ c.in_ok-end.was) in omega arith
 
 pub overflow_add-i : goal.overflow_add-i
 overflow_add-i c =
-    let named : Plain c.args.line.now c.loop-i.i c.in-At.end = plain_string c.args.line.now c.loop-i.i (sym c.plain_text.ensures ∙ c.in-At.is) in
-    let n = named in omega arith
+    let named = plain_string c.args.line.now c.loop-i.i (sym c.plain_text.ensures ∙ c.in_ok-end.was) in omega arith
 
 pub slice_bounds-with_member-count : goal.slice_bounds-with_member-count
 slice_bounds-with_member-count c =
-    let named : Plain c.args.line.now c.loop-i.i c.in-At.end = plain_string c.args.line.now c.loop-i.i (sym c.plain_text.ensures ∙ c.in-At.is) in
-    let n = named in omega arith
+    let named = plain_string c.args.line.now c.loop-i.i (sym c.plain_text.ensures ∙ c.in_ok-end.was) in omega arith
 
 pub slice_bounds-with_member-start : goal.slice_bounds-with_member-start
 slice_bounds-with_member-start c =
-    let named : Plain c.args.line.now c.loop-i.i c.in-At.end = plain_string c.args.line.now c.loop-i.i (sym c.plain_text.ensures ∙ c.in-At.is) in
-    let n = named in omega arith
+    let named = plain_string c.args.line.now c.loop-i.i (sym c.plain_text.ensures ∙ c.in_ok-end.was) in omega arith
 
 pub slice_bounds-with_member-end : goal.slice_bounds-with_member-end
 slice_bounds-with_member-end c =
-    let named : Plain c.args.line.now c.loop-i.i c.in-At.end = plain_string c.args.line.now c.loop-i.i (sym c.plain_text.ensures ∙ c.in-At.is) in
-    let n = named in omega arith
+    let named = plain_string c.args.line.now c.loop-i.i (sym c.plain_text.ensures ∙ c.in_ok-end.was) in omega arith
 
 pub overflow_add-i-in-loop-i : goal.overflow_add-i-in-loop-i
 overflow_add-i-in-loop-i c =
-    let named : Plain c.args.line.now c.loop-i.i c.in-At.end = plain_string c.args.line.now c.loop-i.i (sym c.plain_text.ensures ∙ c.in-At.is) in
-    let n = named in omega arith
+    let named = plain_string c.args.line.now c.loop-i.i (sym c.plain_text.ensures ∙ c.in_ok-end.was) in omega arith
 
 pub overflow_sub-end : goal.overflow_sub-end
 overflow_sub-end c =
-    let named : Plain c.args.line.now c.loop-i.i c.in-At.end = plain_string c.args.line.now c.loop-i.i (sym c.plain_text.ensures ∙ c.in-At.is) in
-    let n = named in omega arith
+    let named = plain_string c.args.line.now c.loop-i.i (sym c.plain_text.ensures ∙ c.in_ok-end.was) in omega arith
 
 pub returns-in-Close : goal.returns-in-Close
 returns-in-Close c =
-    let named : Plain c.args.line.now c.loop-i.i c.in-At.end = plain_string c.args.line.now c.loop-i.i (sym c.plain_text.ensures ∙ c.in-At.is) in
-    let here : MemberAt 7 c.args.line.now c.loop-i.i (take (c.in-At.end - (c.loop-i.i + 1)) (drop (c.loop-i.i + 1) c.args.line.now)) c.in-At-value_behind.p c.in-At-value_end.behind = member_read c.args.line.now c.loop-i.i (named) (sym c.value_behind.ensures ∙ c.in-At-value_behind.is)
-    (answered (PartTo 7 c.args.line.now c.in-At-value_behind.p (c.in-At.end - (c.loop-i.i + 1))) c.in-At-value_end.is c.value_end.ensures) in
-    line_passed c.args.line.now c.loop-i.invariant (here) c.with_member-found.ensures c.skip_blanks-first.ensures (sym c.separator.ensures ∙ c.in-Close.is) c.skip_blanks.ensures c.if-skip_blanks-line.false
+    let named = plain_string c.args.line.now c.loop-i.i (sym c.plain_text.ensures ∙ c.in_ok-end.was) in
+    let here = member_read c.args.line.now c.loop-i.i named (sym c.value_behind.ensures ∙ c.in_ok-p.was)
+    (MatchOption-at_some _ (PartTo 7 c.args.line.now c.in_ok-p.p (c.in_ok-end.end - (c.loop-i.i + 1))) _ c.in_ok-behind.was c.value_end.ensures) in
+    line_passed c.args.line.now c.loop-i.invariant here c.with_member-found.ensures c.skip_blanks-first.ensures (sym c.separator.ensures ∙ (c.in_ok-next.was ∙ ap Some c.in-Close.is)) c.skip_blanks.ensures c.if-skip_blanks-line.false
 
 pub loop-i-smaller : goal.loop-i-smaller
 loop-i-smaller c =
-    let named : Plain c.args.line.now c.loop-i.i c.in-At.end = plain_string c.args.line.now c.loop-i.i (sym c.plain_text.ensures ∙ c.in-At.is) in
-    let here : MemberAt 7 c.args.line.now c.loop-i.i (take (c.in-At.end - (c.loop-i.i + 1)) (drop (c.loop-i.i + 1) c.args.line.now)) c.in-At-value_behind.p c.in-At-value_end.behind = member_read c.args.line.now c.loop-i.i (named) (sym c.value_behind.ensures ∙ c.in-At-value_behind.is)
-    (answered (PartTo 7 c.args.line.now c.in-At-value_behind.p (c.in-At.end - (c.loop-i.i + 1))) c.in-At-value_end.is c.value_end.ensures) in
-    omega (arith, member_forward c.args.line.now (here) (sym c.separator.ensures ∙ c.in-Comma.is))
+    let named = plain_string c.args.line.now c.loop-i.i (sym c.plain_text.ensures ∙ c.in_ok-end.was) in
+    let here = member_read c.args.line.now c.loop-i.i named (sym c.value_behind.ensures ∙ c.in_ok-p.was)
+    (MatchOption-at_some _ (PartTo 7 c.args.line.now c.in_ok-p.p (c.in_ok-end.end - (c.loop-i.i + 1))) _ c.in_ok-behind.was c.value_end.ensures) in
+    omega (arith, member_forward c.args.line.now here (sym c.separator.ensures ∙ (c.in_ok-next.was ∙ ap Some c.in-Comma.is)))
 
 pub loop-i-preserved : goal.loop-i-preserved
 loop-i-preserved c =
-    let named : Plain c.args.line.now c.loop-i.i c.in-At.end = plain_string c.args.line.now c.loop-i.i (sym c.plain_text.ensures ∙ c.in-At.is) in
-    let here : MemberAt 7 c.args.line.now c.loop-i.i (take (c.in-At.end - (c.loop-i.i + 1)) (drop (c.loop-i.i + 1) c.args.line.now)) c.in-At-value_behind.p c.in-At-value_end.behind = member_read c.args.line.now c.loop-i.i (named) (sym c.value_behind.ensures ∙ c.in-At-value_behind.is)
-    (answered (PartTo 7 c.args.line.now c.in-At-value_behind.p (c.in-At.end - (c.loop-i.i + 1))) c.in-At-value_end.is c.value_end.ensures) in
-    passed_more c.args.line.now c.loop-i.invariant (here) c.with_member-found.ensures (sym c.separator.ensures ∙ c.in-Comma.is)
+    let named = plain_string c.args.line.now c.loop-i.i (sym c.plain_text.ensures ∙ c.in_ok-end.was) in
+    let here = member_read c.args.line.now c.loop-i.i named (sym c.value_behind.ensures ∙ c.in_ok-p.was)
+    (MatchOption-at_some _ (PartTo 7 c.args.line.now c.in_ok-p.p (c.in_ok-end.end - (c.loop-i.i + 1))) _ c.in_ok-behind.was c.value_end.ensures) in
+    passed_more c.args.line.now c.loop-i.invariant here c.with_member-found.ensures (sym c.separator.ensures ∙ (c.in_ok-next.was ∙ ap Some c.in-Comma.is))

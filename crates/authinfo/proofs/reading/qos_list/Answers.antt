@@ -1,40 +1,34 @@
--- The loop's invariant: what the elements left come to, behind those that came to `takes`, is what all come to. The measure is the turns that
--- are left. Assumes nothing.
-use mathlib.Core.Path.{◌≡◌, refl, sym, ap, ◌∙◌}
-use Prim.Native.Nat.{◌-◌}
-use Rattle.authinfo.specs.Places.{level_here, levels_up_to, levels_from}
-use Rattle.authinfo.specs.declared.QosRead.TheVariants.{Takes}
-use Rattle.authinfo.proofs.ReadingLaws.{level_number, level_other, levels_end, levels_none, levels_next, levels_bad}
+-- The loop's invariant: what the elements left come to, behind those that came to `takes`, is what all come to. Assumes nothing.
+use mathlib.Core.Path.{◌≡◌, sym, ap, ◌∙◌}
+use mathlib.Core.Bool.{false}
+use Rattle.json_text.specs.Access.{first_item, places_from}
+use Rattle.authinfo.specs.Places.{levels_at, levels_from}
+use Rattle.authinfo.proofs.ReadingLaws.{level_number, level_other, levels_next, levels_bad}
 use Rattle.authinfo.proofs.reading.qos_list.Goals as goal
-use Rattle.authinfo.proofs.reading.qos_list.Goals.{in-Is+in-Takes, in_default-number_value}
 
-pub loop-turns-init : goal.loop-turns-init
+pub loop-p-init : goal.loop-p-init
 unfolding levels_from
-loop-turns-init c =
-    refl
+loop-p-init c =
+    let lines : c.into_iter-p-iterator.result.line.now ≡ c.args.line.now = cc (c.into_iter-p-iterator.ensures.into_iter_gives, c.new-p-items.ensures.0) in
+    let firsts : c.into_iter-p-iterator.result.next ≡ first_item 0x5b 0x5d c.args.line.now c.args.at = cc (c.into_iter-p-iterator.ensures.into_iter_gives, c.new-p-items.ensures.1) in
+    (tt, tt, λ i. levels_at c.args.line.now c.args.asked false (places_from (lines i) (firsts i)))
 
-pub returns-in_default : goal.returns-in_default
-returns-in_default c =
-    sym (levels_end c.loop-turns.turns c.args.line.now c.args.asked c.loop-turns.takes)
-    ∙ (ap (levels_up_to c.loop-turns.turns c.args.line.now c.args.asked c.loop-turns.takes) (sym c.in_default.is) ∙ c.loop-turns.invariant)
+pub returns-in_err-takes : goal.returns-in_err-takes
+returns-in_err-takes c =
+    c.from_residual.ensures
+    ∙ (sym (levels_bad c.args.line.now c.args.asked c.loop-p.takes c.in-Some.p _ (level_number c.args.line.now c.args.asked c.loop-p.takes c.in-Some.p (sym c.number_value.ensures ∙ c.in-Some-number_value.is) ∙ (sym c.with_level.ensures ∙ c.in_err-takes.was)))
+    ∙ (ap (levels_at c.args.line.now c.args.asked c.loop-p.takes) (sym c.in-Some.ensures.steps) ∙ c.loop-p.invariant.2))
 
-pub returns-in_default-with_level : goal.returns-in_default-with_level
-returns-in_default-with_level c =
-    sym (levels_bad c.loop-turns.turns c.args.line.now c.args.asked c.loop-turns.takes c.in-At.p c.loop-turns-test.true
-    (level_number c.args.line.now c.args.asked c.loop-turns.takes c.in-At.p (sym c.number_value.ensures ∙ c.in-Is.is) ∙ (sym c.with_level.ensures ∙ c.in_default-with_level.is)))
-    ∙ (ap (levels_up_to c.loop-turns.turns c.args.line.now c.args.asked c.loop-turns.takes) (sym c.in-At.is) ∙ c.loop-turns.invariant)
+pub loop-p-preserved : goal.loop-p-preserved
+loop-p-preserved c =
+    (tt, tt, sym (levels_next c.args.line.now c.args.asked c.loop-p.takes c.in-Some.p _ (level_other c.args.line.now c.args.asked c.loop-p.takes c.in-Some.p (sym c.number_value.ensures ∙ c.in_default.is))) ∙ (ap (levels_at c.args.line.now c.args.asked c.loop-p.takes) (sym c.in-Some.ensures.steps) ∙ c.loop-p.invariant.2))
 
-pub loop-turns-preserved : goal.loop-turns-preserved
-loop-turns-preserved c =
-    let level_here_lem : level_here c.args.line.now c.args.asked c.loop-turns.takes c.in-At.p ≡ Takes c.match-number_value.takes = elim c.match-number_value.branch [
-      | in-Is+in-Takes w ↦ level_number c.args.line.now c.args.asked c.loop-turns.takes c.in-At.p (sym c.number_value.ensures ∙ w.in-Is.is)
-          ∙ (sym w.with_level.ensures ∙ (w.in-Takes.is ∙ ap Takes (sym w.takes-is)))
-      | in_default-number_value w ↦ level_other c.args.line.now c.args.asked c.loop-turns.takes c.in-At.p (sym c.number_value.ensures ∙ w.in_default-number_value.is) ∙ ap Takes (sym w.takes-is)
-    ] in
-    ap (levels_up_to (c.loop-turns.turns - 1) c.args.line.now c.args.asked c.match-number_value.takes) c.next_item-next.ensures
-    ∙ (sym (levels_next c.loop-turns.turns c.args.line.now c.args.asked c.loop-turns.takes c.in-At.p c.loop-turns-test.true level_here_lem)
-    ∙ (ap (levels_up_to c.loop-turns.turns c.args.line.now c.args.asked c.loop-turns.takes) (sym c.in-At.is) ∙ c.loop-turns.invariant))
+pub loop-p-preserved-in-Some-number_value : goal.loop-p-preserved-in-Some-number_value
+loop-p-preserved-in-Some-number_value c =
+    let level = level_number c.args.line.now c.args.asked c.loop-p.takes c.in-Some.p (sym c.number_value.ensures ∙ c.in-Some-number_value.is) ∙ (sym c.with_level.ensures ∙ c.in_ok-takes.was) in
+    (tt, tt, sym (levels_next c.args.line.now c.args.asked c.loop-p.takes c.in-Some.p _ level) ∙ (ap (levels_at c.args.line.now c.args.asked c.loop-p.takes) (sym c.in-Some.ensures.steps) ∙ c.loop-p.invariant.2))
 
 pub returns : goal.returns
+unfolding levels_at
 returns c =
-    sym (levels_none c.loop-turns.turns c.args.line.now c.args.asked c.loop-turns.takes c.loop-turns.next c.loop-turns-test.false) ∙ c.loop-turns.invariant
+    ap (levels_at c.args.line.now c.args.asked c.loop-p.takes) (sym c.in-None.ensures.steps.0) ∙ c.loop-p.invariant.2

@@ -1,13 +1,11 @@
--- The loop's invariant: what the elements left come to, behind those that came to `takes`, is what all come to. The measure is the turns that
--- are left. Assumes nothing.
+-- The loop's invariant: what the elements left come to, behind those that came to `takes`, is what all come to. Assumes nothing.
 use mathlib.Core.Path.{◌≡◌}
-use Rattle.authinfo.specs.Places.{levels_up_to, levels_from}
+use Rattle.json_text.specs.Access.{places_from}
+use Rattle.authinfo.specs.Places.{levels_at, levels_from}
 use Rattle.authinfo.proofs.reading.qos_list.Given as goal
 
-abbrev pub invariant-loop-turns : goal.invariant-loop-turns
-invariant-loop-turns l =
-    levels_up_to l.turns l.line l.asked l.takes l.next ≡ levels_from l.line l.asked l.initial.next
-
-abbrev pub decreases-loop-turns : goal.decreases-loop-turns
-decreases-loop-turns l =
-    l.turns
+abbrev pub invariant-loop-p : goal.invariant-loop-p
+invariant-loop-p l =
+    (goal.iterator-loop-p).can_next l.p-iterator
+    × (goal.iterator-loop-p).is_finite l.p-iterator
+    × (levels_at l.line l.asked l.takes (places_from l.p-iterator.line.now l.p-iterator.next) ≡ levels_from l.line l.asked l.at)

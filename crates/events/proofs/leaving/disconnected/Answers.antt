@@ -1,7 +1,10 @@
--- `events::leaving::disconnected` meets its contract. A store that has a shape is the layout of a view; the client's filter rows that a note of
--- the session clears are marked and removed, and what is left is laid out again. Assumes nothing.
+-- `events::leaving::disconnected` meets its contract. A store that has a shape is the layout of a view; the client's filter rows that a note of the session clears go,
+-- and what is left is laid out again. Assumes nothing.
+use Prim.Native.Nat.{◌*◌, ◌≤◌}
+use mathlib.Core.Path.{sym}
 use native.Mathlib.Omega.{arith}
-use lib.ListN.{length-take, length-drop}
+use lib.ListN.{length}
+use lib.Seq.{length-take-le}
 use Rattle.store.specs.Store.{store_length}
 use Rattle.store.specs.Layout.{filters_at, eqs_at, notes_at}
 use Rattle.store.proofs.PartLaws.{shaped_told, bounds_told}
@@ -20,70 +23,56 @@ pub returns-in_default : goal.returns-in_default
 returns-in_default c =
     let whole = disconnected_unread _ _ _ c.if-id-gt-ID.false c.if-session-ge-SESSIONS.false c.shape.ensures c.in_default.is in record { result_value = whole.0; store_after = whole.1 }
 
-pub overflow_mul-filters_end : goal.overflow_mul-filters_end
-overflow_mul-filters_end c =
-    let sizes = bounds_told _ c.shape.ensures c.in-LaidOut.is in
+pub split_at_mut-front-requires : goal.split_at_mut-front-requires
+unfolding store_length notes_at eqs_at filters_at
+split_at_mut-front-requires c =
+    let sizes = bounds_told _ c.shape.ensures c.in-Some.is in
+    omega (arith, c.notes_at.ensures)
+
+pub overflow_mul-shape : goal.overflow_mul-shape
+overflow_mul-shape c =
+    let sizes = bounds_told _ c.shape.ensures c.in-Some.is in
     omega arith
 
-pub overflow_add-filters_end : goal.overflow_add-filters_end
+pub slice_bounds-remove_cleared-end-2 : goal.slice_bounds-remove_cleared-end-2
 unfolding store_length notes_at eqs_at filters_at
-overflow_add-filters_end c =
-    let sizes = bounds_told _ c.shape.ensures c.in-LaidOut.is in
-    omega (arith, c.filters_at-filters_at.ensures)
+slice_bounds-remove_cleared-end-2 c =
+    let sizes = bounds_told _ c.shape.ensures c.in-Some.is in
+    let long : c.in-Some.shape.notes * 260 ≤ length c.split_at_mut-front.result.1.now = omega (arith, c.notes_at.ensures, c.split_at_mut-front.ensures.back_len) in
+    long
 
-pub overflow_mul-notes_end : goal.overflow_mul-notes_end
-overflow_mul-notes_end c =
-    let sizes = bounds_told _ c.shape.ensures c.in-LaidOut.is in
-    omega arith
-
-pub overflow_add-notes_end : goal.overflow_add-notes_end
+pub slice_bounds-remove_cleared-end-3 : goal.slice_bounds-remove_cleared-end-3
 unfolding store_length notes_at eqs_at filters_at
-overflow_add-notes_end c =
-    let sizes = bounds_told _ c.shape.ensures c.in-LaidOut.is in
-    omega (arith, c.notes_at-notes_at.ensures)
+slice_bounds-remove_cleared-end-3 c =
+    let sizes = bounds_told _ c.shape.ensures c.in-Some.is in
+    let long : c.in-Some.shape.notes * 260 ≤ length c.split_at_mut-front.result.1.now = omega (arith, c.notes_at.ensures, c.split_at_mut-front.ensures.back_len) in
+    sym (length-take-le _ _ long)
 
-pub slice_bounds-mark_filters-end : goal.slice_bounds-mark_filters-end
+pub slice_bounds-remove_cleared-count : goal.slice_bounds-remove_cleared-count
 unfolding store_length notes_at eqs_at filters_at
-slice_bounds-mark_filters-end c =
-    let sizes = bounds_told _ c.shape.ensures c.in-LaidOut.is in
-    omega (arith, c.filters_at-filters_at.ensures)
-
-pub slice_bounds-mark_filters-end-2 : goal.slice_bounds-mark_filters-end-2
-unfolding store_length notes_at eqs_at filters_at
-slice_bounds-mark_filters-end-2 c =
-    let sizes = bounds_told _ c.shape.ensures c.in-LaidOut.is in
-    omega (arith, c.notes_at-notes_at.ensures)
-
-pub mark_filters-requires : goal.mark_filters-requires
-mark_filters-requires c =
-    let sizes = bounds_told _ c.shape.ensures c.in-LaidOut.is in
-    simp (length-take, length-drop) (omega arith)
-
-pub slice_bounds-remove-count : goal.slice_bounds-remove-count
-unfolding store_length notes_at eqs_at filters_at
-slice_bounds-remove-count c =
-    let sizes = bounds_told _ c.shape.ensures c.in-LaidOut.is in
+slice_bounds-remove_cleared-count c =
     omega (arith, c.filters_at-filters_at.ensures, c.eqs_at-eqs_at.ensures)
 
-pub slice_bounds-remove-start : goal.slice_bounds-remove-start
+pub slice_bounds-remove_cleared-start : goal.slice_bounds-remove_cleared-start
 unfolding store_length notes_at eqs_at filters_at
-slice_bounds-remove-start c =
-    let sizes = bounds_told _ c.shape.ensures c.in-LaidOut.is in
+slice_bounds-remove_cleared-start c =
     omega (arith, c.filters_at-filters_at.ensures, c.eqs_at-eqs_at.ensures)
 
-pub slice_bounds-remove-end : goal.slice_bounds-remove-end
+pub slice_bounds-remove_cleared-end : goal.slice_bounds-remove_cleared-end
 unfolding store_length notes_at eqs_at filters_at
-slice_bounds-remove-end c =
-    let sizes = bounds_told _ c.shape.ensures c.in-LaidOut.is in
-    omega (arith, c.eqs_at-eqs_at.ensures)
+slice_bounds-remove_cleared-end c =
+    omega (arith, c.eqs_at-eqs_at.ensures, c.notes_at.ensures, c.split_at_mut-front.ensures.front_len)
 
 pub overflow_cast-stay : goal.overflow_cast-stay
 overflow_cast-stay c =
-    let sizes = bounds_told _ c.shape.ensures c.in-LaidOut.is in
-    omega (arith, stay_few _ _ _ _ c.remove-stay.ensures.value)
+    let sizes = bounds_told _ c.shape.ensures c.in-Some.is in
+    omega (arith, stay_few _ _ _ _ c.remove_cleared-stay.ensures.value)
 
 pub returns : goal.returns
 returns c =
-    let made = shaped_told _ c.shape.ensures c.in-LaidOut.is in
-    let gone = disconnected_done _ _ _ made c.if-id-gt-ID.false c.if-session-ge-SESSIONS.false c.filters_at-filters_at.ensures c.eqs_at-eqs_at.ensures c.notes_at-notes_at.ensures in
-    let whole = gone c.mark_filters.ensures (c.remove-stay.ensures.value, c.remove-stay.ensures.table_after) c.put_number.ensures in record { result_value = whole.0; store_after = whole.1 }
+    let made = shaped_told _ c.shape.ensures c.in-Some.is in
+    let stays = rw (c.split_at_mut-front.ensures.front, c.split_at_mut-front.ensures.back) at c.remove_cleared-stay.ensures.value in
+    let part = rw (c.split_at_mut-front.ensures.front, c.split_at_mut-front.ensures.back) at c.remove_cleared-stay.ensures.filters_after in
+    let whole = disconnected_done _ _ made c.if-id-gt-ID.false c.if-session-ge-SESSIONS.false c.filters_at-filters_at.ensures c.eqs_at-eqs_at.ensures c.notes_at.ensures (stays, part)
+    (rw (c.split_at_mut-front.ensures.front, c.split_at_mut-front.ensures.back) at c.put_number.ensures) in
+    record { result_value = whole.0; store_after = whole.1 }

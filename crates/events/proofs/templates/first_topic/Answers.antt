@@ -4,18 +4,20 @@ use Rattle.events.specs.Templates.{first_of, first_topic}
 use Rattle.events.proofs.TemplateWalk.{first_by, first_by_lem}
 use Rattle.events.proofs.templates.first_topic.Goals as goal
 
-pub returns-in_default : goal.returns-in_default
+pub returns-in_err-ok : goal.returns-in_err-ok
 unfolding first_by
-returns-in_default c =
-    sym (ap first_topic (sym c.line_at-line.ensures) ∙ first_by_lem c.line_at-line.result.now c.read_rule.ensures c.in_default.is)
+returns-in_err-ok c =
+    let read = first_by_lem c.line_at-line.result.now c.read_rule.ensures (sym c.ok.ensures.value ∙ c.in_err-ok.was) in
+    c.from_residual.ensures ∙ sym (ap first_topic (sym c.line_at-line.ensures) ∙ read)
 
-pub returns-in-All : goal.returns-in-All
+pub returns-in_err-branch : goal.returns-in_err-branch
 unfolding first_by first_of
-returns-in-All c =
-    sym (ap first_topic (sym c.line_at-line.ensures) ∙ (first_by_lem c.line_at-line.result.now c.read_rule.ensures c.in-Rule.is ∙ ap (first_of c.line_at-line.result.now) c.in-All.is))
+returns-in_err-branch c =
+    let read = first_by_lem c.line_at-line.result.now c.read_rule.ensures (sym c.ok.ensures.value ∙ c.in_ok-ok.was) in
+    c.from_residual-in_err-branch.ensures ∙ sym (ap first_topic (sym c.line_at-line.ensures) ∙ read ∙ ap (first_of c.line_at-line.result.now) c.in_err-branch.was)
 
-pub returns-in-Listed : goal.returns-in-Listed
+pub returns : goal.returns
 unfolding first_by first_of
-returns-in-Listed c =
-    let first = first_by_lem c.line_at-line.result.now c.read_rule.ensures c.in-Rule.is ∙ ap (first_of c.line_at-line.result.now) c.in-Listed.is in
-    c.first_element.ensures ∙ sym (ap first_topic (sym c.line_at-line.ensures) ∙ first)
+returns c =
+    let read = first_by_lem c.line_at-line.result.now c.read_rule.ensures (sym c.ok.ensures.value ∙ c.in_ok-ok.was) in
+    c.first_element.ensures ∙ sym (ap first_topic (sym c.line_at-line.ensures) ∙ read ∙ ap (first_of c.line_at-line.result.now) c.in_ok-branch.was)

@@ -1,11 +1,11 @@
 -- Each return has the tests that led there: the bracket at the place, and whether it is closed at once. Assumes nothing.
+use Rattle.std.specs.Prelude.{Some}
 use mathlib.Core.Path.{refl, sym, ap, ◌∙◌}
 use Prim.Native.Nat.{ℕ}
 use native.Mathlib.Omega.{arith}
 use Rattle.json_text.specs.Json.{is_at}
 use Rattle.json_text.proofs.ScanLaws.{at_within}
 use Rattle.json_text.proofs.AccessSteps.{first_by_lem}
-use Rattle.json_text.specs.declared.Place.TheVariants.{At}
 use Rattle.json_text.proofs.access.first_item.Goals as goal
 
 pub returns-then-not-is_at : goal.returns-then-not-is_at
@@ -23,6 +23,6 @@ returns-then-is_at c =
 
 pub returns : goal.returns
 returns c =
-    ap At c.skip_blanks-p.ensures
+    ap Some c.skip_blanks-p.ensures
     ∙ sym (first_by_lem c.args.opens c.args.closes c.args.line.now c.args.at (sym c.is_at.ensures ∙ c.if-not-is_at.false)
     (ap (λ (p : ℕ). is_at c.args.line.now p c.args.closes) (sym c.skip_blanks-p.ensures) ∙ (sym c.is_at-2.ensures ∙ c.if-is_at.false)))

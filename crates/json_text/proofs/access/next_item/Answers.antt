@@ -1,9 +1,9 @@
 -- Each return has the tests that led there: the value, and the comma behind it. Assumes nothing.
+use Rattle.std.specs.Prelude.{Some}
 use mathlib.Core.Path.{sym, ap, ◌∙◌}
 use native.Mathlib.Omega.{arith}
 use Rattle.json_text.proofs.ScanLaws.{at_within}
 use Rattle.json_text.proofs.AccessSteps.{next_bad, next_by}
-use Rattle.json_text.specs.declared.Place.TheVariants.{At}
 use Rattle.json_text.proofs.access.next_item.Goals as goal
 
 pub overflow_add-p : goal.overflow_add-p
@@ -12,13 +12,13 @@ overflow_add-p c =
 
 pub returns-then-is_at : goal.returns-then-is_at
 returns-then-is_at c =
-    ap At c.skip_blanks.ensures
-    ∙ sym (next_by c.args.line.now c.args.at (sym c.value.ensures ∙ c.in-Next.is) c.skip_blanks-p.ensures (sym c.is_at.ensures ∙ c.if-is_at.true))
+    ap Some c.skip_blanks.ensures
+    ∙ sym (next_by c.args.line.now c.args.at (sym c.value.ensures ∙ c.in_ok-behind.was) c.skip_blanks-p.ensures (sym c.is_at.ensures ∙ c.if-is_at.true))
 
-pub returns-else-is_at : goal.returns-else-is_at
-returns-else-is_at c =
-    sym (next_by c.args.line.now c.args.at (sym c.value.ensures ∙ c.in-Next.is) c.skip_blanks-p.ensures (sym c.is_at.ensures ∙ c.if-is_at.false))
+pub returns : goal.returns
+returns c =
+    sym (next_by c.args.line.now c.args.at (sym c.value.ensures ∙ c.in_ok-behind.was) c.skip_blanks-p.ensures (sym c.is_at.ensures ∙ c.if-is_at.false))
 
-pub returns-in-Bad : goal.returns-in-Bad
-returns-in-Bad c =
-    sym (next_bad c.args.line.now c.args.at (sym c.value.ensures ∙ c.in-Bad.is))
+pub returns-in_err-behind : goal.returns-in_err-behind
+returns-in_err-behind c =
+    c.from_residual.ensures ∙ sym (next_bad c.args.line.now c.args.at (sym c.value.ensures ∙ c.in_err-behind.was))

@@ -1,11 +1,11 @@
 -- Each return has the tests that led there: the quote at the place, and the byte behind the plain ones. Assumes nothing.
+use Rattle.std.specs.Prelude.{Some}
 use mathlib.Core.Path.{refl, sym, ap, ◌∙◌}
 use Prim.Native.Nat.{ℕ}
 use native.Mathlib.Omega.{arith}
 use Rattle.json_text.specs.Json.{is_at}
 use Rattle.json_text.proofs.ScanLaws.{at_within}
 use Rattle.json_text.proofs.PlainLaws.{plain_text_by}
-use Rattle.json_text.specs.declared.Place.TheVariants.{At}
 use Rattle.json_text.proofs.access.plain_text.Goals as goal
 
 pub returns-then-not-is_at : goal.returns-then-not-is_at
@@ -18,7 +18,7 @@ overflow_add-at c =
 
 pub returns-then-is_at : goal.returns-then-is_at
 returns-then-is_at c =
-    ap At c.plain_end-end.ensures
+    ap Some c.plain_end-end.ensures
     ∙ sym (plain_text_by c.args.line.now c.args.at (sym c.is_at.ensures ∙ c.if-not-is_at.false)
     (ap (λ (p : ℕ). is_at c.args.line.now p 0x22) (sym c.plain_end-end.ensures) ∙ (sym c.is_at-2.ensures ∙ c.if-is_at.true)))
 

@@ -1,24 +1,21 @@
 -- The bool is that of the word. Assumes nothing.
-use mathlib.Core.Path.{sym, ◌∙◌}
-use Rattle.json_text.proofs.AccessSteps.{truth_in, truth_by}
+use Rattle.std.specs.Prelude.{option_and_then, Some}
+use mathlib.Core.Path.{sym, ap, ◌∙◌}
+use Rattle.json_text.proofs.AccessSteps.{truth_in, truth_literal}
 use Rattle.json_text.proofs.access.truth.Goals as goal
 
 pub returns-in-True : goal.returns-in-True
-unfolding truth_in
 returns-in-True c =
-    sym (truth_by c.args.line.now c.args.at (sym c.literal_at.ensures ∙ c.in-True.is))
+    ap (option_and_then truth_in) (sym (c.in_ok-literal_at.was ∙ ap Some c.in-True.is) ∙ c.literal_at.ensures) ∙ truth_literal c.args.line.now c.args.at
 
 pub returns-in-False : goal.returns-in-False
-unfolding truth_in
 returns-in-False c =
-    sym (truth_by c.args.line.now c.args.at (sym c.literal_at.ensures ∙ c.in-False.is))
+    ap (option_and_then truth_in) (sym (c.in_ok-literal_at.was ∙ ap Some c.in-False.is) ∙ c.literal_at.ensures) ∙ truth_literal c.args.line.now c.args.at
 
 pub returns-in-Null : goal.returns-in-Null
-unfolding truth_in
 returns-in-Null c =
-    sym (truth_by c.args.line.now c.args.at (sym c.literal_at.ensures ∙ c.in-Null.is))
+    ap (option_and_then truth_in) (sym (c.in_ok-literal_at.was ∙ ap Some c.in-Null.is) ∙ c.literal_at.ensures) ∙ truth_literal c.args.line.now c.args.at
 
-pub returns-in-Bad : goal.returns-in-Bad
-unfolding truth_in
-returns-in-Bad c =
-    sym (truth_by c.args.line.now c.args.at (sym c.literal_at.ensures ∙ c.in-Bad.is))
+pub returns-in_err-literal_at : goal.returns-in_err-literal_at
+returns-in_err-literal_at c =
+    c.from_residual.ensures ∙ (ap (option_and_then truth_in) (sym c.in_err-literal_at.was ∙ c.literal_at.ensures) ∙ truth_literal c.args.line.now c.args.at)

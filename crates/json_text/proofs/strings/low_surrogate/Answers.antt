@@ -1,46 +1,55 @@
 -- Each return has the tests of `low_surrogate` that led there. Assumes nothing.
 use native.Mathlib.Omega.{arith}
-use mathlib.Core.Path.{refl, sym, ap, ◌∙◌}
-use lib.Dec.{eqb}
+use mathlib.Core.Path.{sym, ap, ◌∙◌}
 use lib.ListN.{drop, length-drop}
 use lib.Seq.{drop-drop}
-use Rattle.json_text.proofs.Utf8Laws.{byte_here, byte_first, within, under, over}
-use Rattle.json_text.proofs.PieceLaws.{low_by, low_short}
-use Rattle.json_text.specs.Strings.{backslash, hex4}
-use borrow.Author.Tests.{eq-eqb, ne_eqb}
+use borrow.Author.Rules.{part_to_end}
+use Rattle.text.specs.Maybe.{bind}
+use Rattle.json_text.specs.Strings.{hex4}
+use Rattle.json_text.proofs.Utf8Laws.{within, outside}
+use Rattle.json_text.proofs.PieceLaws.{low_by, low_shut, begins_two}
 use Rattle.json_text.proofs.strings.low_surrogate.Goals as goal
 
-pub returns-then-line-at : goal.returns-then-line-at
-returns-then-line-at c =
-    let s = drop c.args.at c.args.line.now in
-    sym (low_short s (omega (arith, length-drop c.args.at c.args.line.now)))
+pub returns-then-not-begins : goal.returns-then-not-begins
+returns-then-not-begins c =
+    sym (low_shut (drop c.args.at c.args.line.now) (sym (rw part_to_end at c.begins.ensures) ∙ c.if-not-begins.true))
 
-pub returns-then-line-at-lt2 : goal.returns-then-line-at-lt2
-returns-then-line-at-lt2 c =
-    let s = drop c.args.at c.args.line.now in
-    sym (low_short s (omega (arith, length-drop c.args.at c.args.line.now)))
+pub hex4-requires : goal.hex4-requires
+hex4-requires c =
+    omega (arith, begins_two (drop c.args.at c.args.line.now) (sym (rw part_to_end at c.begins.ensures) ∙ c.if-not-begins.false), length-drop c.args.at c.args.line.now)
 
-pub returns-then-line-at-ne92 : goal.returns-then-line-at-ne92
-returns-then-line-at-ne92 c =
+pub returns-in_err-low : goal.returns-in_err-low
+unfolding bind
+returns-in_err-low c =
     let s = drop c.args.at c.args.line.now in
-    sym (low_by s (ap (λ b. eqb b backslash) (byte_first c.args.line.now c.args.at (omega arith)) ∙ ne_eqb _ _ c.if-line-at-ne92.true) refl refl)
+    c.from_residual.ensures
+    ∙ sym
+    (low_by s (sym (rw part_to_end at c.begins.ensures) ∙ c.if-not-begins.false)
+    (ap hex4 (drop-drop 2 c.args.at c.args.line.now) ∙ (sym c.hex4.ensures ∙ c.in_err-low.was)))
 
-pub returns-then-line-at-ne117 : goal.returns-then-line-at-ne117
-returns-then-line-at-ne117 c =
+pub returns-in-56320-to-57343 : goal.returns-in-56320-to-57343
+unfolding bind
+returns-in-56320-to-57343 c =
     let s = drop c.args.at c.args.line.now in
-    sym (low_by s (ap (λ b. eqb b backslash) (byte_first c.args.line.now c.args.at (omega arith)) ∙ eq-eqb _ _ c.if-line-at-ne92.false) (ap (λ b. eqb b 0x75) (byte_here c.args.line.now c.args.at 1 (omega arith)) ∙ ne_eqb _ _ c.if-line-at-ne117.true) refl)
+    sym
+    (low_by s (sym (rw part_to_end at c.begins.ensures) ∙ c.if-not-begins.false)
+    (ap hex4 (drop-drop 2 c.args.at c.args.line.now) ∙ (sym c.hex4.ensures ∙ c.in_ok-low.was))
+    ∙ rw (within 0xdc00 0xdfff c.in_ok-low.low (omega arith) (omega arith)))
 
-pub returns-then-low-lt56320 : goal.returns-then-low-lt56320
-returns-then-low-lt56320 c =
+pub returns-in_default : goal.returns-in_default
+unfolding bind
+returns-in_default c =
     let s = drop c.args.at c.args.line.now in
-    sym (low_by s (ap (λ b. eqb b backslash) (byte_first c.args.line.now c.args.at (omega arith)) ∙ eq-eqb _ _ c.if-line-at-ne92.false) (ap (λ b. eqb b 0x75) (byte_here c.args.line.now c.args.at 1 (omega arith)) ∙ eq-eqb _ _ c.if-line-at-ne117.false) (under 0xdc00 0xdfff _ (rw (← (c.hex4-low.ensures ∙ sym (ap hex4 (drop-drop 2 c.args.at c.args.line.now)))) c.if-low-lt56320.true)))
+    sym
+    (low_by s (sym (rw part_to_end at c.begins.ensures) ∙ c.if-not-begins.false)
+    (ap hex4 (drop-drop 2 c.args.at c.args.line.now) ∙ (sym c.hex4.ensures ∙ c.in_ok-low.was))
+    ∙ rw (outside 0xdc00 0xdfff c.in_ok-low.low (λ h k. omega arith)))
 
-pub returns-then-low-gt57343 : goal.returns-then-low-gt57343
-returns-then-low-gt57343 c =
+pub returns-in_default-2 : goal.returns-in_default-2
+unfolding bind
+returns-in_default-2 c =
     let s = drop c.args.at c.args.line.now in
-    sym (low_by s (ap (λ b. eqb b backslash) (byte_first c.args.line.now c.args.at (omega arith)) ∙ eq-eqb _ _ c.if-line-at-ne92.false) (ap (λ b. eqb b 0x75) (byte_here c.args.line.now c.args.at 1 (omega arith)) ∙ eq-eqb _ _ c.if-line-at-ne117.false) (over 0xdc00 0xdfff _ (rw (← (c.hex4-low.ensures ∙ sym (ap hex4 (drop-drop 2 c.args.at c.args.line.now)))) c.if-low-gt57343.true)))
-
-pub returns : goal.returns
-returns c =
-    let s = drop c.args.at c.args.line.now in
-    (c.hex4-low.ensures ∙ sym (ap hex4 (drop-drop 2 c.args.at c.args.line.now))) ∙ sym (low_by s (ap (λ b. eqb b backslash) (byte_first c.args.line.now c.args.at (omega arith)) ∙ eq-eqb _ _ c.if-line-at-ne92.false) (ap (λ b. eqb b 0x75) (byte_here c.args.line.now c.args.at 1 (omega arith)) ∙ eq-eqb _ _ c.if-line-at-ne117.false) (within 0xdc00 0xdfff _ (rw (← (c.hex4-low.ensures ∙ sym (ap hex4 (drop-drop 2 c.args.at c.args.line.now)))) c.if-low-lt56320.false) (rw (← (c.hex4-low.ensures ∙ sym (ap hex4 (drop-drop 2 c.args.at c.args.line.now)))) c.if-low-gt57343.false)))
+    sym
+    (low_by s (sym (rw part_to_end at c.begins.ensures) ∙ c.if-not-begins.false)
+    (ap hex4 (drop-drop 2 c.args.at c.args.line.now) ∙ (sym c.hex4.ensures ∙ c.in_ok-low.was))
+    ∙ rw (outside 0xdc00 0xdfff c.in_ok-low.low (λ h k. omega arith)))

@@ -6,22 +6,15 @@ use lib.Dec.{eqb, ltb}
 use lib.ListN.{drop, drop_of_length-le}
 use lib.Seq.{drop-drop}
 use Rattle.json_text.proofs.Utf8Laws.{byte_first, sequence_ascii}
-use Rattle.json_text.proofs.PieceLaws.{piece_by, piece_nothing, raw_none, raw_some}
-use Rattle.json_text.specs.Strings.{quote, backslash, escape, raw_piece, piece_of}
+use Rattle.json_text.proofs.PieceLaws.{piece_by, piece_nothing, raw_by}
+use Rattle.json_text.specs.Strings.{quote, backslash, escape, piece_of}
 use borrow.Author.Tests.{eq-eqb, ne_eqb, lt-ltb, le-ltb}
-use Rattle.json_text.specs.Utf8.{sequence}
-use Rattle.json_text.specs.declared.Piece.TheVariants.{Raw}
 use Rattle.json_text.proofs.strings.piece_at.Goals as goal
 
 pub returns-then-line-at : goal.returns-then-line-at
 returns-then-line-at c =
     let s = drop c.args.at c.args.line.now in
     sym (ap piece_of (drop_of_length-le c.args.line.now {i = c.args.at} c.if-line-at.true) ∙ piece_nothing)
-
-pub returns-then-n-eq0 : goal.returns-then-n-eq0
-returns-then-n-eq0 c =
-    let s = drop c.args.at c.args.line.now in
-    sym (piece_by s (ap (λ (b : ℕ). eqb b quote) (byte_first c.args.line.now c.args.at (omega arith)) ∙ ne_eqb _ _ (λ e. omega arith)) (ap (λ (b : ℕ). eqb b backslash) (byte_first c.args.line.now c.args.at (omega arith)) ∙ ne_eqb _ _ (λ e. omega arith)) (ap (λ (b : ℕ). ltb b 0x20) (byte_first c.args.line.now c.args.at (omega arith)) ∙ le-ltb _ _ (omega arith)) ∙ raw_none (sequence s) (sym c.sequence-n.ensures ∙ c.if-n-eq0.true))
 
 pub returns-in-34 : goal.returns-in-34
 returns-in-34 c =
@@ -41,9 +34,14 @@ returns-in-0-to-31 c =
 pub returns-in-32-to-127 : goal.returns-in-32-to-127
 returns-in-32-to-127 c =
     let s = drop c.args.at c.args.line.now in
-    sym (piece_by s (ap (λ (b : ℕ). eqb b quote) (byte_first c.args.line.now c.args.at (omega arith)) ∙ ne_eqb _ _ (λ e. omega arith)) (ap (λ (b : ℕ). eqb b backslash) (byte_first c.args.line.now c.args.at (omega arith)) ∙ ne_eqb _ _ (λ e. omega arith)) (ap (λ (b : ℕ). ltb b 0x20) (byte_first c.args.line.now c.args.at (omega arith)) ∙ le-ltb _ _ (omega arith)) ∙ (ap raw_piece (sequence_ascii s (rw (byte_first c.args.line.now c.args.at (omega arith)) (omega arith))) ∙ raw_some 1 (λ e. omega arith)))
+    sym (piece_by s (ap (λ (b : ℕ). eqb b quote) (byte_first c.args.line.now c.args.at (omega arith)) ∙ ne_eqb _ _ (λ e. omega arith)) (ap (λ (b : ℕ). eqb b backslash) (byte_first c.args.line.now c.args.at (omega arith)) ∙ ne_eqb _ _ (λ e. omega arith)) (ap (λ (b : ℕ). ltb b 0x20) (byte_first c.args.line.now c.args.at (omega arith)) ∙ le-ltb _ _ (omega arith)) ∙ raw_by (sequence_ascii s (rw (byte_first c.args.line.now c.args.at (omega arith)) (omega arith))))
 
-pub returns-else-n-eq0 : goal.returns-else-n-eq0
-returns-else-n-eq0 c =
+pub returns-in_ok-n-in_default : goal.returns-in_ok-n-in_default
+returns-in_ok-n-in_default c =
     let s = drop c.args.at c.args.line.now in
-    ap (λ (n : ℕ). Raw n) c.sequence-n.ensures ∙ sym (piece_by s (ap (λ (b : ℕ). eqb b quote) (byte_first c.args.line.now c.args.at (omega arith)) ∙ ne_eqb _ _ (λ e. omega arith)) (ap (λ (b : ℕ). eqb b backslash) (byte_first c.args.line.now c.args.at (omega arith)) ∙ ne_eqb _ _ (λ e. omega arith)) (ap (λ (b : ℕ). ltb b 0x20) (byte_first c.args.line.now c.args.at (omega arith)) ∙ le-ltb _ _ (omega arith)) ∙ raw_some (sequence s) (λ e. c.if-n-eq0.false (c.sequence-n.ensures ∙ e)))
+    sym (piece_by s (ap (λ (b : ℕ). eqb b quote) (byte_first c.args.line.now c.args.at (omega arith)) ∙ ne_eqb _ _ (λ e. omega arith)) (ap (λ (b : ℕ). eqb b backslash) (byte_first c.args.line.now c.args.at (omega arith)) ∙ ne_eqb _ _ (λ e. omega arith)) (ap (λ (b : ℕ). ltb b 0x20) (byte_first c.args.line.now c.args.at (omega arith)) ∙ le-ltb _ _ (omega arith)) ∙ raw_by (sym c.sequence.ensures ∙ c.in_ok-n-in_default.was))
+
+pub returns-in_err-n-in_default : goal.returns-in_err-n-in_default
+returns-in_err-n-in_default c =
+    let s = drop c.args.at c.args.line.now in
+    c.from_residual.ensures ∙ sym (piece_by s (ap (λ (b : ℕ). eqb b quote) (byte_first c.args.line.now c.args.at (omega arith)) ∙ ne_eqb _ _ (λ e. omega arith)) (ap (λ (b : ℕ). eqb b backslash) (byte_first c.args.line.now c.args.at (omega arith)) ∙ ne_eqb _ _ (λ e. omega arith)) (ap (λ (b : ℕ). ltb b 0x20) (byte_first c.args.line.now c.args.at (omega arith)) ∙ le-ltb _ _ (omega arith)) ∙ raw_by (sym c.sequence.ensures ∙ c.in_err-n-in_default.was))

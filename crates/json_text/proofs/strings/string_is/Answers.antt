@@ -7,27 +7,27 @@ use Rattle.json_text.proofs.strings.string_is.Goals as goal
 
 pub overflow_add-at : goal.overflow_add-at
 overflow_add-at c =
-    let found : Plain c.args.line.now c.args.at c.in-At.end = plain_string c.args.line.now c.args.at (sym c.plain_text.ensures ∙ c.in-At.is) in
+    let found : Plain c.args.line.now c.args.at c.in-Some.end = plain_string c.args.line.now c.args.at (sym c.plain_text.ensures ∙ c.in-Some.is) in
     let p = found in omega arith
 
 pub slice_bounds-same-count : goal.slice_bounds-same-count
 slice_bounds-same-count c =
-    let found : Plain c.args.line.now c.args.at c.in-At.end = plain_string c.args.line.now c.args.at (sym c.plain_text.ensures ∙ c.in-At.is) in
+    let found : Plain c.args.line.now c.args.at c.in-Some.end = plain_string c.args.line.now c.args.at (sym c.plain_text.ensures ∙ c.in-Some.is) in
     let p = found in omega arith
 
 pub slice_bounds-same-start : goal.slice_bounds-same-start
 slice_bounds-same-start c =
-    let found : Plain c.args.line.now c.args.at c.in-At.end = plain_string c.args.line.now c.args.at (sym c.plain_text.ensures ∙ c.in-At.is) in
+    let found : Plain c.args.line.now c.args.at c.in-Some.end = plain_string c.args.line.now c.args.at (sym c.plain_text.ensures ∙ c.in-Some.is) in
     let p = found in omega arith
 
 pub slice_bounds-same-end : goal.slice_bounds-same-end
 slice_bounds-same-end c =
-    let found : Plain c.args.line.now c.args.at c.in-At.end = plain_string c.args.line.now c.args.at (sym c.plain_text.ensures ∙ c.in-At.is) in
+    let found : Plain c.args.line.now c.args.at c.in-Some.end = plain_string c.args.line.now c.args.at (sym c.plain_text.ensures ∙ c.in-Some.is) in
     let p = found in omega arith
 
-pub returns-in-At : goal.returns-in-At
+pub returns-in-Some : goal.returns-in-Some
 unfolding is_rest
-returns-in-At c =
-    let found : Plain c.args.line.now c.args.at c.in-At.end = plain_string c.args.line.now c.args.at (sym c.plain_text.ensures ∙ c.in-At.is) in
+returns-in-Some c =
+    let found : Plain c.args.line.now c.args.at c.in-Some.end = plain_string c.args.line.now c.args.at (sym c.plain_text.ensures ∙ c.in-Some.is) in
     let p = found in
     c.same.ensures ∙ sym (is_begins c.args.line.now c.args.at c.args.wanted.now ∙ ap (is_rest c.args.wanted.now) p.string)

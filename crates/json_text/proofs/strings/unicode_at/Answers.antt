@@ -1,52 +1,76 @@
 -- Each return has the tests of `unicode` that led there. Assumes nothing.
 use native.Mathlib.Omega.{arith}
 use mathlib.Core.Path.{refl, sym, ap, ◌∙◌}
-use Prim.Native.Nat.{ℕ, ◌+◌, ◌-◌, ◌*◌}
 use lib.ListN.{drop, length-drop}
 use lib.Seq.{drop-drop}
-use Rattle.json_text.proofs.PieceLaws.{hex4_there, low_most, unicode_by}
-use Rattle.json_text.specs.Strings.{hex4, low_surrogate}
-use borrow.Author.Tests.{eq-eqb, ne_eqb, lt-ltb, le-ltb, le-leb, lt-leb}
+use mathlib.Core.Logic.{⊎_elim}
+use Rattle.std.specs.Prelude.{ℕ, Some}
+use Rattle.text.specs.Maybe.{bind}
 use Rattle.json_text.specs.declared.Piece.TheVariants.{Escaped}
+use Rattle.json_text.specs.Strings.{low_surrogate}
+use Rattle.json_text.proofs.Utf8Laws.{within, outside}
+use Rattle.json_text.proofs.PieceLaws.{hex4_told, low_told, unicode_none, unicode_by}
 use Rattle.json_text.proofs.strings.unicode_at.Goals as goal
 
-pub returns-then-u-eq-NO_HEX : goal.returns-then-u-eq-NO_HEX
-returns-then-u-eq-NO_HEX c =
-    let s = drop c.args.at c.args.line.now in
-    sym (unicode_by s (eq-eqb _ _ (sym c.hex4-u.ensures ∙ c.if-u-eq-NO_HEX.true)) refl refl refl refl)
-
-pub returns-then-u-lt55296 : goal.returns-then-u-lt55296
-returns-then-u-lt55296 c =
-    let s = drop c.args.at c.args.line.now in
-    ap (λ (x : ℕ). Escaped x 6) c.hex4-u.ensures ∙ sym (unicode_by s (ne_eqb _ _ (λ e. c.if-u-eq-NO_HEX.false (c.hex4-u.ensures ∙ e))) (lt-ltb (hex4 s) 0xd800 (rw (← c.hex4-u.ensures) c.if-u-lt55296.true)) refl refl refl)
-
-pub returns-then-u-gt57343 : goal.returns-then-u-gt57343
-returns-then-u-gt57343 c =
-    let s = drop c.args.at c.args.line.now in
-    ap (λ (x : ℕ). Escaped x 6) c.hex4-u.ensures ∙ sym (unicode_by s (ne_eqb _ _ (λ e. c.if-u-eq-NO_HEX.false (c.hex4-u.ensures ∙ e))) (le-ltb (hex4 s) 0xd800 (rw (← c.hex4-u.ensures) c.if-u-lt55296.false)) (lt-ltb 0xdfff (hex4 s) (rw (← c.hex4-u.ensures) c.if-u-gt57343.true)) refl refl)
-
-pub returns-then-u-ge56320 : goal.returns-then-u-ge56320
-returns-then-u-ge56320 c =
-    let s = drop c.args.at c.args.line.now in
-    sym (unicode_by s (ne_eqb _ _ (λ e. c.if-u-eq-NO_HEX.false (c.hex4-u.ensures ∙ e))) (le-ltb (hex4 s) 0xd800 (rw (← c.hex4-u.ensures) c.if-u-lt55296.false)) (le-ltb 0xdfff (hex4 s) (rw (← c.hex4-u.ensures) c.if-u-gt57343.false)) (le-ltb (hex4 s) 0xdc00 (rw (← c.hex4-u.ensures) c.if-u-ge56320.true)) refl)
+pub returns-in_err-u : goal.returns-in_err-u
+returns-in_err-u c =
+    c.from_residual.ensures ∙ sym (unicode_none (drop c.args.at c.args.line.now) (sym c.hex4.ensures ∙ c.in_err-u.was))
 
 pub overflow_add-at : goal.overflow_add-at
 overflow_add-at c =
-    let s = drop c.args.at c.args.line.now in
-    omega (arith, hex4_there s (λ e. c.if-u-eq-NO_HEX.false (c.hex4-u.ensures ∙ e)), length-drop c.args.at c.args.line.now)
+    let told = hex4_told (drop c.args.at c.args.line.now) (sym c.hex4.ensures ∙ c.in_ok-u.was) in
+    omega (arith, told.there, length-drop c.args.at c.args.line.now)
 
-pub returns-then-low-lt56320 : goal.returns-then-low-lt56320
-returns-then-low-lt56320 c =
-    let s = drop c.args.at c.args.line.now in
-    sym (unicode_by s (ne_eqb _ _ (λ e. c.if-u-eq-NO_HEX.false (c.hex4-u.ensures ∙ e))) (le-ltb (hex4 s) 0xd800 (rw (← c.hex4-u.ensures) c.if-u-lt55296.false)) (le-ltb 0xdfff (hex4 s) (rw (← c.hex4-u.ensures) c.if-u-gt57343.false)) (lt-ltb (hex4 s) 0xdc00 (rw (← c.hex4-u.ensures) c.if-u-ge56320.false)) (lt-leb 0xdc00 (low_surrogate (drop 4 s)) (rw (← (c.low_surrogate-low.ensures ∙ sym (ap low_surrogate (drop-drop 4 c.args.at c.args.line.now)))) c.if-low-lt56320.true)))
+pub low_surrogate-requires : goal.low_surrogate-requires
+low_surrogate-requires c =
+    let told = hex4_told (drop c.args.at c.args.line.now) (sym c.hex4.ensures ∙ c.in_ok-u.was) in
+    omega (arith, told.there, length-drop c.args.at c.args.line.now)
 
-pub overflow_add-result-2 : goal.overflow_add-result-2
-overflow_add-result-2 c =
-    let s = drop c.args.at c.args.line.now in
-    omega (arith, low_most (drop 4 s), (c.low_surrogate-low.ensures ∙ sym (ap low_surrogate (drop-drop 4 c.args.at c.args.line.now))))
+pub overflow_sub-low : goal.overflow_sub-low
+overflow_sub-low c =
+    omega (arith, (low_told _ (sym c.low_surrogate.ensures ∙ c.in_ok-low-in-55296-to-56319.was)).least)
 
-pub returns : goal.returns
-returns c =
+pub overflow_add-u-in-55296-to-56319 : goal.overflow_add-u-in-55296-to-56319
+overflow_add-u-in-55296-to-56319 c =
+    omega (arith, (low_told _ (sym c.low_surrogate.ensures ∙ c.in_ok-low-in-55296-to-56319.was)).most)
+
+pub returns-in_ok-c-in-55296-to-56319 : goal.returns-in_ok-c-in-55296-to-56319
+unfolding bind
+returns-in_ok-c-in-55296-to-56319 c =
     let s = drop c.args.at c.args.line.now in
-    (λ i. Escaped (0x10000 + (c.hex4-u.ensures i - 0xd800) * 0x400 + ((c.low_surrogate-low.ensures ∙ sym (ap low_surrogate (drop-drop 4 c.args.at c.args.line.now))) i - 0xdc00)) 12)
-    ∙ sym (unicode_by s (ne_eqb _ _ (λ e. c.if-u-eq-NO_HEX.false (c.hex4-u.ensures ∙ e))) (le-ltb (hex4 s) 0xd800 (rw (← c.hex4-u.ensures) c.if-u-lt55296.false)) (le-ltb 0xdfff (hex4 s) (rw (← c.hex4-u.ensures) c.if-u-gt57343.false)) (lt-ltb (hex4 s) 0xdc00 (rw (← c.hex4-u.ensures) c.if-u-ge56320.false)) (le-leb 0xdc00 (low_surrogate (drop 4 s)) (rw (← (c.low_surrogate-low.ensures ∙ sym (ap low_surrogate (drop-drop 4 c.args.at c.args.line.now)))) c.if-low-lt56320.false)))
+    ap (λ (k : ℕ). Some (Escaped k 12)) c.in_ok-c-in-55296-to-56319.ensures.value.1
+    ∙ sym
+    (unicode_by s (sym c.hex4.ensures ∙ c.in_ok-u.was) (within 0xd800 0xdbff c.in_ok-u.u (omega arith) (omega arith))
+    (ap low_surrogate (drop-drop 4 c.args.at c.args.line.now) ∙ (sym c.low_surrogate.ensures ∙ c.in_ok-low-in-55296-to-56319.was)) refl)
+
+-- a pair is always a character
+pub returns-in_err-c-in-55296-to-56319 : goal.returns-in_err-c-in-55296-to-56319
+returns-in_err-c-in-55296-to-56319 c =
+    let low = low_told _ (sym c.low_surrogate.ensures ∙ c.in_ok-low-in-55296-to-56319.was) in
+    absurd (⊎_elim (λ h. omega (arith, low.least, low.most)) (λ h. omega (arith, low.least, low.most)) c.in_err-c-in-55296-to-56319.ensures.cases)
+
+pub returns-in_err-low-in-55296-to-56319 : goal.returns-in_err-low-in-55296-to-56319
+unfolding bind
+returns-in_err-low-in-55296-to-56319 c =
+    let s = drop c.args.at c.args.line.now in
+    c.from_residual-in_err-low-in-55296-to-56319.ensures
+    ∙ sym
+    (unicode_by s (sym c.hex4.ensures ∙ c.in_ok-u.was) (within 0xd800 0xdbff c.in_ok-u.u (omega arith) (omega arith))
+    (ap low_surrogate (drop-drop 4 c.args.at c.args.line.now) ∙ (sym c.low_surrogate.ensures ∙ c.in_err-low-in-55296-to-56319.was)) refl)
+
+pub returns-in_ok-c-in_default : goal.returns-in_ok-c-in_default
+returns-in_ok-c-in_default c =
+    let u = c.in_ok-u.u in
+    ap (λ (k : ℕ). Some (Escaped k 6)) c.in_ok-c-in_default.ensures.value.1
+    ∙ sym
+    (unicode_by (drop c.args.at c.args.line.now) (sym c.hex4.ensures ∙ c.in_ok-u.was) (outside 0xd800 0xdbff u (λ h k. omega arith)) refl
+    (outside 0xdc00 0xdfff u (λ h k. ⊎_elim (λ l. omega arith) (λ l. omega arith) c.in_ok-c-in_default.ensures.cases)))
+
+pub returns-in_err-c-in_default : goal.returns-in_err-c-in_default
+returns-in_err-c-in_default c =
+    let u = c.in_ok-u.u in
+    let told = hex4_told (drop c.args.at c.args.line.now) (sym c.hex4.ensures ∙ c.in_ok-u.was) in
+    c.from_residual-in_err-c-in_default.ensures
+    ∙ sym
+    (unicode_by (drop c.args.at c.args.line.now) (sym c.hex4.ensures ∙ c.in_ok-u.was) (outside 0xd800 0xdbff u (λ h k. omega arith)) refl
+    (⊎_elim (λ l. within 0xdc00 0xdfff u (omega arith) (omega arith)) (λ l. absurd (omega (arith, told.most))) c.in_err-c-in_default.ensures.cases))

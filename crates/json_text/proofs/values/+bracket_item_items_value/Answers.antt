@@ -1,11 +1,13 @@
 -- The answers of the cycle of calls {bracket, item, items, value}: each return has the tests of the definition that led there. Assumes nothing.
+use Rattle.std.specs.Prelude.{Some}
 use Rattle.std.proofs.Common.{ℕ, ◌+◌, sym, ap, ◌∙◌, refl, arith}
 use Rattle.json_text.specs.Json.{kind_of, value_at, separator_at, is_at, longest}
 use Rattle.json_text.specs.Access.{stepped}
-use Rattle.json_text.specs.declared.Step.TheVariants.{Next}
 use Rattle.json_text.proofs.ScanLaws.{byte_here, comma_next}
 use Rattle.json_text.proofs.ValueLaws.{step_behind, step_on, value_past, inner_none, inner_some, step_opened, step_as, value_step, step_from, itemized_all, itemized_past, itemized_step, item_next, closing_within, bracket_step, bracket_past, value_on, member_step, element_step}
+use Rattle.json_text.specs.declared.Cursor.{Cursor}
 use Rattle.json_text.proofs.values.+bracket_item_items_value.Goals as goal
+use Rattle.json_text.proofs.values.+bracket_item_items_value.Goals.{item-then-object+in_ok-start, item-else-object}
 
 pub bracket-returns-then-line-at : goal.bracket-returns-then-line-at
 bracket-returns-then-line-at t c =
@@ -19,7 +21,7 @@ pub bracket-returns-then-is_at : goal.bracket-returns-then-is_at
 bracket-returns-then-is_at t c =
     let a = c.args in
     let first = c.skip_blanks-first.ensures in
-    ap (λ (p : ℕ). Next (record { at = p + 1; longest = a.c.longest })) first
+    ap (λ (p : ℕ). Some (record { at = p + 1; longest = a.c.longest })) first
     ∙ sym
     (bracket_step a.depth a.line.now a.object a.c.longest a.c.at
     (sym (λ i. is_at a.line.now (first i) (c.closing.ensures i)) ∙ (sym c.is_at.ensures ∙ c.if-is_at.true)))
@@ -35,37 +37,41 @@ bracket-returns t c =
     (bracket_step a.depth a.line.now a.object a.c.longest a.c.at
     (sym (λ i. is_at a.line.now (first i) (c.closing.ensures i)) ∙ (sym c.is_at.ensures ∙ c.if-is_at.false)))))
 
-pub item-returns-in-Next : goal.item-returns-in-Next
+pub item-returns-in_err-start : goal.item-returns-in_err-start
 unfolding value_on
-item-returns-in-Next t c =
+item-returns-in_err-start t c =
     let a = c.args in
     rw c.if-object.true
-    (c.value.ensures
-    ∙ sym (member_step a.line.now (value_at a.depth a.line.now) a.c.longest a.c.at (sym c.name.ensures ∙ c.in-Next.is)))
-
-pub item-returns-in-Bad : goal.item-returns-in-Bad
-unfolding value_on
-item-returns-in-Bad t c =
-    let a = c.args in
-    rw c.if-object.true
-    (sym (member_step a.line.now (value_at a.depth a.line.now) a.c.longest a.c.at (sym c.name.ensures ∙ c.in-Bad.is)))
+    (c.from_residual.ensures ∙ sym (member_step a.line.now (value_at a.depth a.line.now) a.c.longest a.c.at (sym c.name.ensures ∙ c.in_err-start.was)))
 
 pub item-returns : goal.item-returns
+unfolding value_on
 item-returns t c =
     let a = c.args in
-    rw c.if-object.false (c.value-2.ensures ∙ sym (element_step a.line.now (value_at a.depth a.line.now) a.c.longest a.c.at))
+    let read = value_at a.depth a.line.now in
+    elim c.if-object.branch [
+      | item-then-object+in_ok-start w ↦
+          rw w.if-object.true
+          (c.value.ensures
+          ∙ (ap (λ (k : Cursor). stepped longest k.longest (read k.at)) w.start-is
+          ∙ sym (member_step a.line.now read a.c.longest a.c.at (sym w.name.ensures ∙ w.in_ok-start.was))))
+      | item-else-object w ↦
+          rw w.if-object.false
+          (c.value.ensures ∙ (ap (λ (k : Cursor). stepped longest k.longest (read k.at)) w.start-is ∙ sym (element_step a.line.now read a.c.longest a.c.at)))
+    ]
 
 pub items-loop-cursor-init : goal.items-loop-cursor-init
 items-loop-cursor-init t c =
     let a = c.args in
     sym (ap (stepped longest a.c.longest) (itemized_all a.depth a.line.now a.object a.c.at))
 
-pub items-returns-in-Bad : goal.items-returns-in-Bad
+pub items-returns-in_err-behind : goal.items-returns-in_err-behind
 unfolding step_on
-items-returns-in-Bad t c =
+items-returns-in_err-behind t c =
     let a = c.args in
     let cursor = c.loop-cursor.cursor in
-    sym (itemized_step a.depth a.line.now a.object cursor.longest cursor.at c.loop-cursor-test.true (sym c.item.ensures ∙ c.in-Bad.is))
+    c.from_residual.ensures
+    ∙ sym (itemized_step a.depth a.line.now a.object cursor.longest cursor.at c.loop-cursor-test.true (sym c.item.ensures ∙ c.in_err-behind.was))
     ∙ c.loop-cursor.invariant
 
 pub items-returns-in-Close : goal.items-returns-in-Close
@@ -73,11 +79,11 @@ unfolding step_on step_behind
 items-returns-in-Close t c =
     let a = c.args in
     let cursor = c.loop-cursor.cursor in
-    let behind = c.in-Next.behind in
+    let behind = c.in_ok-behind.behind in
     sym
-    (itemized_step a.depth a.line.now a.object cursor.longest cursor.at c.loop-cursor-test.true (sym c.item.ensures ∙ c.in-Next.is)
+    (itemized_step a.depth a.line.now a.object cursor.longest cursor.at c.loop-cursor-test.true (sym c.item.ensures ∙ c.in_ok-behind.was)
     ∙ ap (step_behind (step_from a.depth a.line.now a.object) behind.longest)
-    (ap (λ (b : ℕ). separator_at b a.line.now behind.at) (sym c.closing.ensures) ∙ (sym c.separator.ensures ∙ c.in-Close.is)))
+    (ap (λ (b : ℕ). separator_at b a.line.now behind.at) (sym c.closing.ensures) ∙ (sym c.separator.ensures ∙ (c.in_ok-at.was ∙ ap Some c.in-Close.is))))
     ∙ c.loop-cursor.invariant
 
 pub items-loop-cursor-smaller : goal.items-loop-cursor-smaller
@@ -86,8 +92,8 @@ items-loop-cursor-smaller t c =
     let cursor = c.loop-cursor.cursor in
     omega (
       arith,
-      item_next a.depth a.line.now a.object cursor.longest cursor.at (sym c.item.ensures ∙ c.in-Next.is),
-      comma_next a.line.now c.in-Next.behind.at c.closing.result (sym c.separator.ensures ∙ c.in-Comma.is),
+      item_next a.depth a.line.now a.object cursor.longest cursor.at (sym c.item.ensures ∙ c.in_ok-behind.was),
+      comma_next a.line.now c.in_ok-behind.behind.at c.closing.result (sym c.separator.ensures ∙ (c.in_ok-at.was ∙ ap Some c.in-Comma.is)),
     )
 
 pub items-loop-cursor-preserved : goal.items-loop-cursor-preserved
@@ -95,23 +101,24 @@ unfolding step_on step_behind
 items-loop-cursor-preserved t c =
     let a = c.args in
     let cursor = c.loop-cursor.cursor in
-    let behind = c.in-Next.behind in
+    let behind = c.in_ok-behind.behind in
     sym
-    (itemized_step a.depth a.line.now a.object cursor.longest cursor.at c.loop-cursor-test.true (sym c.item.ensures ∙ c.in-Next.is)
+    (itemized_step a.depth a.line.now a.object cursor.longest cursor.at c.loop-cursor-test.true (sym c.item.ensures ∙ c.in_ok-behind.was)
     ∙ ap (step_behind (step_from a.depth a.line.now a.object) behind.longest)
-    (ap (λ (b : ℕ). separator_at b a.line.now behind.at) (sym c.closing.ensures) ∙ (sym c.separator.ensures ∙ c.in-Comma.is)))
+    (ap (λ (b : ℕ). separator_at b a.line.now behind.at) (sym c.closing.ensures) ∙ (sym c.separator.ensures ∙ (c.in_ok-at.was ∙ ap Some c.in-Comma.is))))
     ∙ c.loop-cursor.invariant
 
-pub items-returns-in-Neither : goal.items-returns-in-Neither
+pub items-returns-in_err-at : goal.items-returns-in_err-at
 unfolding step_on step_behind
-items-returns-in-Neither t c =
+items-returns-in_err-at t c =
     let a = c.args in
     let cursor = c.loop-cursor.cursor in
-    let behind = c.in-Next.behind in
-    sym
-    (itemized_step a.depth a.line.now a.object cursor.longest cursor.at c.loop-cursor-test.true (sym c.item.ensures ∙ c.in-Next.is)
+    let behind = c.in_ok-behind.behind in
+    c.from_residual-in_err-at.ensures
+    ∙ sym
+    (itemized_step a.depth a.line.now a.object cursor.longest cursor.at c.loop-cursor-test.true (sym c.item.ensures ∙ c.in_ok-behind.was)
     ∙ ap (step_behind (step_from a.depth a.line.now a.object) behind.longest)
-    (ap (λ (b : ℕ). separator_at b a.line.now behind.at) (sym c.closing.ensures) ∙ (sym c.separator.ensures ∙ c.in-Neither.is)))
+    (ap (λ (b : ℕ). separator_at b a.line.now behind.at) (sym c.closing.ensures) ∙ (sym c.separator.ensures ∙ c.in_err-at.was)))
     ∙ c.loop-cursor.invariant
 
 pub items-returns : goal.items-returns

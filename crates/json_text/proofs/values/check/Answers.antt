@@ -8,15 +8,15 @@ use Rattle.json_text.proofs.values.check.Goals as goal
 pub returns-then-skip_blanks-line : goal.returns-then-skip_blanks-line
 returns-then-skip_blanks-line c =
     sym
-    (checked_by c.args.line.now c.skip_blanks.ensures (sym c.value.ensures ∙ c.in-Next.is) c.skip_blanks-in-Next.ensures
-    (eq-eqb c.skip_blanks-in-Next.result (length c.args.line.now) c.if-skip_blanks-line.true))
+    (checked_by c.args.line.now c.skip_blanks.ensures (sym c.value.ensures ∙ c.in_ok-behind.was) c.skip_blanks-2.ensures
+    (eq-eqb c.skip_blanks-2.result (length c.args.line.now) c.if-skip_blanks-line.true))
 
-pub returns-else-skip_blanks-line : goal.returns-else-skip_blanks-line
-returns-else-skip_blanks-line c =
+pub returns : goal.returns
+returns c =
     sym
-    (checked_by c.args.line.now c.skip_blanks.ensures (sym c.value.ensures ∙ c.in-Next.is) c.skip_blanks-in-Next.ensures
-    (ne_eqb c.skip_blanks-in-Next.result (length c.args.line.now) c.if-skip_blanks-line.false))
+    (checked_by c.args.line.now c.skip_blanks.ensures (sym c.value.ensures ∙ c.in_ok-behind.was) c.skip_blanks-2.ensures
+    (ne_eqb c.skip_blanks-2.result (length c.args.line.now) c.if-skip_blanks-line.false))
 
-pub returns-in-Bad : goal.returns-in-Bad
-returns-in-Bad c =
-    sym (checked-bad c.args.line.now c.skip_blanks.ensures (sym c.value.ensures ∙ c.in-Bad.is))
+pub returns-in_err-behind : goal.returns-in_err-behind
+returns-in_err-behind c =
+    c.from_residual.ensures ∙ sym (checked-bad c.args.line.now c.skip_blanks.ensures (sym c.value.ensures ∙ c.in_err-behind.was))

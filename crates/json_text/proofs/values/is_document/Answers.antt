@@ -1,12 +1,9 @@
 -- By what `check` answers. Assumes nothing.
-use mathlib.Core.Path.{sym, ◌∙◌}
-use Rattle.json_text.proofs.DocumentLaws.{none_document, some_document}
+use Rattle.std.specs.Prelude.{is_some}
+use mathlib.Core.Path.{ap, ◌∙◌}
+use Rattle.json_text.specs.Json.{line_value}
+use Rattle.json_text.proofs.DocumentLaws.{checked_document}
 use Rattle.json_text.proofs.values.is_document.Goals as goal
 
-pub returns-in-Invalid : goal.returns-in-Invalid
-returns-in-Invalid c =
-    (none_document _ 0 (sym c.check.ensures ∙ c.in-Invalid.is)).0
-
-pub returns-in-Valid : goal.returns-in-Valid
-returns-in-Valid c =
-    (some_document _ 0 _ (sym c.check.ensures ∙ c.in-Valid.is)).0
+pub returns : goal.returns
+returns c = c.is_some.ensures ∙ (ap is_some c.check.ensures ∙ checked_document (line_value c.args.line.now))

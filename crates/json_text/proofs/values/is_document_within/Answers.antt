@@ -1,12 +1,15 @@
 -- By what `check` answers. Assumes nothing.
-use mathlib.Core.Path.{sym, ◌∙◌}
-use Rattle.json_text.proofs.DocumentLaws.{none_document, some_document}
+use Rattle.std.proofs.Common.{ℕ, Bool, false, ◌≡◌, Option, Some, None, ap, ◌∙◌, rules, tests, nat_le}
+use Rattle.json_text.specs.Json.{line_value}
+use Rattle.json_text.proofs.DocumentLaws.{within, checked_within}
+use Rattle.std.specs.Option.{MatchOption}
 use Rattle.json_text.proofs.values.is_document_within.Goals as goal
 
-pub returns-in-Invalid : goal.returns-in-Invalid
-returns-in-Invalid c =
-    (none_document _ c.args.most (sym c.check.ensures ∙ c.in-Invalid.is)).1
-
-pub returns-in-Valid : goal.returns-in-Valid
-returns-in-Valid c =
-    (some_document _ c.args.most _ (sym c.check.ensures ∙ c.in-Valid.is)).1
+pub returns : goal.returns
+returns c =
+    let told : MatchOption c.check.result (c.is_some_and.result ≡ false) (λ n. c.is_some_and.result ≡ nat_le n c.args.most) = search (rules, tests) in
+    by c.args.most c.check.result told ∙ (ap (within c.args.most) c.check.ensures ∙ checked_within c.args.most (line_value c.args.line.now))
+  where
+    by : {r : Bool} (most : ℕ) (o : Option ℕ) → MatchOption o (r ≡ false) (λ n. r ≡ nat_le n most) → r ≡ within most o
+    by most None h = h
+    by most (Some n) h = h

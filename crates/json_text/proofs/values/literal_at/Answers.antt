@@ -14,12 +14,12 @@ returns-then-line-at c =
 pub returns-then-begins : goal.returns-then-begins
 unfolding literal_of literal_is
 returns-then-begins c =
-    sym (ap literal_of (word_by c.args.line.now c.args.at (sym (rw part_to_end at c.begins.ensures) ∙ c.if-begins.true) (refl) (refl)))
+    sym (ap literal_of (word_by c.args.line.now c.args.at (sym (rw part_to_end at c.begins.ensures) ∙ c.if-begins.true) refl refl))
 
 pub returns-then-begins-2 : goal.returns-then-begins-2
 unfolding literal_of literal_is
 returns-then-begins-2 c =
-    sym (ap literal_of (word_by c.args.line.now c.args.at (sym (rw part_to_end at c.begins.ensures) ∙ c.if-begins.false) (sym (rw part_to_end at c.begins-2.ensures) ∙ c.if-begins-2.true) (refl)))
+    sym (ap literal_of (word_by c.args.line.now c.args.at (sym (rw part_to_end at c.begins.ensures) ∙ c.if-begins.false) (sym (rw part_to_end at c.begins-2.ensures) ∙ c.if-begins-2.true) refl))
 
 pub returns-then-begins-3 : goal.returns-then-begins-3
 unfolding literal_of literal_is

@@ -1,45 +1,28 @@
 -- The parts of a connect line, read at their places, are the elements'. Assumes nothing.
-use mathlib.Core.Path.{◌≡◌, sym, ap, ◌∙◌}
-use mathlib.Core.Option.{some}
-use Rattle.json_text.specs.Json.{array, Elements, line_value}
+use Rattle.std.specs.Prelude.{None}
+use mathlib.Core.Path.{refl, ap, ◌∙◌}
 use Rattle.lines.specs.Said.{reply_said}
-use Rattle.reader.specs.Reader.{fields_here}
-use Rattle.lines.proofs.ElementLaws.{zeros}
-use Rattle.lines.proofs.AskerLaws.{Asks, eighth_is, asker_told, asker_bad, id_within}
-use Rattle.lines.proofs.AskingLaws.{connect_more, connect_bad, connect_any, connect_asks}
+use Rattle.lines.proofs.ElementLaws.{zeros, roomy, is_more, eighth}
+use Rattle.lines.proofs.AskerLaws.{asker_told, asker_bad}
+use Rattle.lines.proofs.AskingLaws.{no_call, connect_more, connect_bad, connect_any, connect_asks}
 use Rattle.lines.proofs.asking.ask_connect.Goals as goal
 
-pub returns-in_default : goal.returns-in_default
-returns-in_default c es is at =
-    c.malformed.ensures ∙ connect_more es c.args.store.now (sym (eighth_is c.args.line.now es is c.args.f at) ∙ c.in_default.is)
+pub returns-then-is_some : goal.returns-then-is_some
+returns-then-is_some c es is at =
+    no_call c.args.store.now {r = None} refl (connect_more es (is_more (eighth c.args.line.now es is c.args.f at) c.is_some.ensures c.if-is_some.true))
 
-pub returns-in_default-asker_at : goal.returns-in_default-asker_at
-returns-in_default-asker_at c es is at =
-    c.malformed-in_default-asker_at.ensures
-    ∙ connect_bad es c.args.store.now
-    (asker_bad c.args.line.now es is c.args.f at zeros c.requires c.asker_at.ensures.value c.in_default-asker_at.is)
+pub returns-in_err-a : goal.returns-in_err-a
+returns-in_err-a c es is at =
+    no_call c.args.store.now c.from_residual.ensures (connect_bad es (asker_bad c.args.line.now es is c.args.f at zeros (roomy c.args.line.now c.requires) (rw c.new-texts.ensures at c.asker_at.ensures.value) c.in_err-a.was))
 
-pub returns-in_default-asked_as : goal.returns-in_default-asked_as
-returns-in_default-asked_as c es is at =
-    let asked : (es : Elements)
-    → line_value c.args.line.now ≡ some (array es)
-    → c.args.f ≡ fields_here c.args.line.now
-    → Asks es c.in-Asker.a c.asker_at.new.ids c.asker_at.new.names c.asker_at.new.passwords c.asker_at.new.addresses = λ es is at. asker_told c.args.line.now es is c.args.f at zeros c.requires c.asker_at.ensures.value c.asker_at.ensures.ids_after c.asker_at.ensures.names_after
-    c.asker_at.ensures.passwords_after c.asker_at.ensures.addresses_after c.in-Asker.is in
-    c.malformed-in_default-asked_as.ensures ∙ connect_any es (asked es is at) c.args.store.now c.in_default-asked_as.is
-
-pub slice_bounds-connect-end : goal.slice_bounds-connect-end
-slice_bounds-connect-end c =
-    id_within c.args.line.now c.args.f zeros c.asker_at.ensures.value c.asker_at.ensures.ids_after c.in-Asker.is
+pub returns-then-is_none : goal.returns-then-is_none
+returns-then-is_none c es is at =
+    no_call c.args.store.now {r = None} refl
+    (connect_any es (asker_told c.args.line.now es is c.args.f at zeros (roomy c.args.line.now c.requires) (rw c.new-texts.ensures at c.asker_at.ensures.value) (rw c.new-texts.ensures at c.asker_at.ensures.ids_after) (rw c.new-texts.ensures at c.asker_at.ensures.names_after) (rw c.new-texts.ensures at c.asker_at.ensures.passwords_after) (rw c.new-texts.ensures at c.asker_at.ensures.addresses_after) c.in_ok-a.was) c.is_none.ensures c.if-is_none.true)
 
 pub returns : goal.returns
 returns c es is at =
-    let asked : (es : Elements)
-    → line_value c.args.line.now ≡ some (array es)
-    → c.args.f ≡ fields_here c.args.line.now
-    → Asks es c.in-Asker.a c.asker_at.new.ids c.asker_at.new.names c.asker_at.new.passwords c.asker_at.new.addresses = λ es is at. asker_told c.args.line.now es is c.args.f at zeros c.requires c.asker_at.ensures.value c.asker_at.ensures.ids_after c.asker_at.ensures.names_after
-    c.asker_at.ensures.passwords_after c.asker_at.ensures.addresses_after c.in-Asker.is in
     c.connect_said.ensures
     ∙ (ap reply_said c.connect.ensures
-    ∙ connect_asks es (asked es is at) c.args.store.now (sym (eighth_is c.args.line.now es is c.args.f at) ∙ c.in-Nowhere.is)
-    c.in-Is.is)
+    ∙ connect_asks es (asker_told c.args.line.now es is c.args.f at zeros (roomy c.args.line.now c.requires) (rw c.new-texts.ensures at c.asker_at.ensures.value) (rw c.new-texts.ensures at c.asker_at.ensures.ids_after) (rw c.new-texts.ensures at c.asker_at.ensures.names_after) (rw c.new-texts.ensures at c.asker_at.ensures.passwords_after) (rw c.new-texts.ensures at c.asker_at.ensures.addresses_after) c.in_ok-a.was)
+    c.args.store.now (is_more (eighth c.args.line.now es is c.args.f at) c.is_some.ensures c.if-is_some.false) c.is_none.ensures c.if-is_none.false c.client.ensures)

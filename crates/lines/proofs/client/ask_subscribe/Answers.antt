@@ -1,26 +1,24 @@
 -- Each return has what was read of the elements. Assumes nothing.
-use mathlib.Core.Path.{sym, ◌∙◌}
-use Rattle.rule.proofs.DecodeLaws.{decoded_length}
-use Rattle.lines.proofs.ElementLaws.{zeros, roomy}
+use Rattle.std.specs.Prelude.{None, Some}
+use mathlib.Core.Path.{refl, sym, ap, ◌∙◌}
+use Rattle.lines.proofs.ElementLaws.{zeros, roomy, is_more, number_read, text_read, text_unread, second, third, fourth}
 use Rattle.lines.proofs.ClientLaws.{unasked, asked, subscribe_more, subscribe_bad, subscribe_no_topic, subscribe-is}
 use Rattle.lines.proofs.client.ask_subscribe.Goals as goal
 
-pub returns-in_default : goal.returns-in_default
-returns-in_default c es is at =
-    unasked _ _ c.no_question.ensures (subscribe_more c.args.line.now c.args.f es is at c.in_default.is)
+pub returns-then-is_some : goal.returns-then-is_some
+returns-then-is_some c es is at =
+    unasked _ _ {r = None} refl (subscribe_more es (is_more (fourth c.args.line.now es is c.args.f at) c.is_some.ensures c.if-is_some.true))
 
-pub returns-in_default-number_at : goal.returns-in_default-number_at
-returns-in_default-number_at c es is at =
-    unasked _ _ c.no_question-in_default-number_at.ensures (subscribe_bad c.args.line.now c.args.f es is at (sym c.number_at.ensures ∙ c.in_default-number_at.is))
+pub returns-in_err-qos : goal.returns-in_err-qos
+returns-in_err-qos c es is at =
+    unasked _ _ c.from_residual.ensures (subscribe_bad es (number_read c.args.line.now es is 1 (second c.args.line.now es is c.args.f at) c.number_at.ensures c.in_err-qos.was))
 
-pub returns-in_default-text_at : goal.returns-in_default-text_at
-returns-in_default-text_at c es is at =
-    unasked _ _ c.no_question-in_default-text_at.ensures (subscribe_no_topic c.args.line.now c.args.f es is at zeros (roomy c.args.line.now c.requires) (sym c.number_at.ensures ∙ c.in-Is.is) (λ n h. c.in_default-text_at.not-Length n (c.text_at.ensures.value ∙ h)))
-
-pub slice_bounds-client_subscribe-end : goal.slice_bounds-client_subscribe-end
-slice_bounds-client_subscribe-end c =
-    (decoded_length zeros _ c.text_at.ensures.value c.text_at.ensures.buffer_after c.in-Length.is).room
+pub returns-in_err-topic : goal.returns-in_err-topic
+returns-in_err-topic c es is at =
+    unasked _ _ c.from_residual-in_err-topic.ensures (subscribe_no_topic es (text_unread c.args.line.now es is 2 (third c.args.line.now es is c.args.f at) zeros (roomy c.args.line.now c.requires) c.text_at.ensures.value (sym c.ok.ensures.value ∙ c.in_err-topic.was)))
 
 pub returns : goal.returns
 returns c es is at =
-    asked _ _ c.subscribe_said.ensures c.client_subscribe.ensures (subscribe-is c.args.line.now c.args.f es is at zeros (roomy c.args.line.now c.requires) c.in-Nowhere.is (sym c.number_at.ensures ∙ c.in-Is.is) (sym c.text_at.ensures.value ∙ c.in-Length.is) c.text_at.ensures.buffer_after)
+    asked _ _ c.subscribe_said.ensures c.client_subscribe-answer.ensures
+    (subscribe-is es (is_more (fourth c.args.line.now es is c.args.f at) c.is_some.ensures c.if-is_some.false) (number_read c.args.line.now es is 1 (second c.args.line.now es is c.args.f at) c.number_at.ensures c.in_ok-qos.was)
+    (text_read c.args.line.now es is 2 (third c.args.line.now es is c.args.f at) zeros (roomy c.args.line.now c.requires) c.text_at.ensures.value c.text_at.ensures.buffer_after (sym c.ok.ensures.value ∙ c.in_ok-topic.was) ∙ ap Some (sym c.front.ensures)))

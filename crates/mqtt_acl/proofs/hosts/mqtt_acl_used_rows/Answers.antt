@@ -11,9 +11,9 @@ returns-in_default c =
 
 pub rows_number-requires : goal.rows_number-requires
 rows_number-requires c =
-    used_small _ (sym c.used_rows.ensures ∙ c.in-Rows.is)
+    used_small _ (sym c.used_rows.ensures ∙ c.in-Some.is)
 
 pub returns : goal.returns
 unfolding used_number
 returns c =
-    c.rows_number.ensures ∙ ap used_number (sym c.in-Rows.is ∙ c.used_rows.ensures)
+    c.rows_number.ensures ∙ ap used_number (sym c.in-Some.is ∙ c.used_rows.ensures)

@@ -1,89 +1,53 @@
 -- `questions::ask::connect` meets its contract: each answer follows from the tests before it, in their order. Assumes nothing.
-use mathlib.Core.Path.{◌≡◌, sym, ◌∙◌}
-use mathlib.Core.Bool.{false}
-use mathlib.Core.Option.{none, some}
+use mathlib.Core.Path.{sym, ap, ◌∙◌}
 use borrow.Author.Tests.{lt-ltb, le-ltb}
-use Rattle.rule.specs.Identity.{Client}
-use Rattle.rule.specs.Places.{given}
 use Rattle.rule.specs.Refusals.{number}
-use Rattle.store.specs.View.{view}
-use Rattle.store.specs.Check.{shape_of}
-use Rattle.store.specs.declared.ShapeRead.TheVariants.{LaidOut}
-use Rattle.questions.specs.Question.{Question, connect, client_over, question_cause}
+use Rattle.questions.specs.Question.{Question, connect, question_cause}
 use Rattle.questions.specs.Decision.{client, wish, keeps, refusal}
-use Rattle.questions.specs.Parts.{wish_of, protocol_of}
+use Rattle.questions.specs.Parts.{wish_of}
 use Rattle.questions.specs.Answers.{connect_says}
-use Rattle.questions.proofs.AskLaws.{refuses_by, malformed_by, allowed, keeps_laid, Asks, none_laid, allows_laid, refuses_laid, first-long, first-wrong, first-none, client_told, connect_kept, connect_new}
+use Rattle.questions.proofs.AskLaws.{malformed_answer, refuses_by, malformed_by, allowed, keeps_laid, Asks, none_laid, allows_laid, refuses_laid, first-long, first-wrong, first-none, connect_kept, connect_new}
 use Rattle.questions.proofs.ask.connect.Goals as goal
 
 pub returns-then-client_over : goal.returns-then-client_over
 unfolding question_cause connect_says number
 returns-then-client_over c =
-    let who : Client = record { id = c.args.id.now; name = given c.args.name c.args.names.now; password = given c.args.password c.args.passwords.now; address = given c.args.address c.args.addresses.now; protocol = some c.args.protocol } in
-    let asked : Question = connect c.args.earlier who in
-    sym (refuses_by asked c.args.store.now (first-long _ _ (client_told who c.client_over.ensures c.if-client_over.true)))
+    sym (refuses_by (connect c.args.earlier c.args.client.now) c.args.store.now (first-long _ _ (sym c.if-client_over.ensures)))
 
 pub returns-then-earlier-gt-CONNECT_CODE : goal.returns-then-earlier-gt-CONNECT_CODE
 unfolding question_cause connect_says number
 returns-then-earlier-gt-CONNECT_CODE c =
-    let who : Client = record { id = c.args.id.now; name = given c.args.name c.args.names.now; password = given c.args.password c.args.passwords.now; address = given c.args.address c.args.addresses.now; protocol = some c.args.protocol } in
-    let asked : Question = connect c.args.earlier who in
-    let short : client_over who ≡ false = client_told who c.client_over.ensures c.if-client_over.false in
-    sym (refuses_by asked c.args.store.now (first-wrong _ _ short (lt-ltb _ _ c.if-earlier-gt-CONNECT_CODE.true)))
+    sym (refuses_by (connect c.args.earlier c.args.client.now) c.args.store.now (first-wrong _ _ (sym c.if-client_over.ensures) (lt-ltb _ _ c.if-earlier-gt-CONNECT_CODE.true)))
 
-pub returns-in_default : goal.returns-in_default
+pub returns-in_err-shape : goal.returns-in_err-shape
 unfolding connect_says number question_cause
-returns-in_default c =
-    let who : Client = record { id = c.args.id.now; name = given c.args.name c.args.names.now; password = given c.args.password c.args.passwords.now; address = given c.args.address c.args.addresses.now; protocol = some c.args.protocol } in
-    let asked : Question = connect c.args.earlier who in
-    let short : client_over who ≡ false = client_told who c.client_over.ensures c.if-client_over.false in
-    let within : question_cause asked ≡ none = first-none _ _ short (le-ltb _ _ c.if-earlier-gt-CONNECT_CODE.false) in
-    sym (malformed_by asked c.args.store.now within (sym c.shape.ensures ∙ c.in_default.is))
+returns-in_err-shape c =
+    ap connect_says (malformed_answer c.from_residual.ensures.1 c.in_err-shape.ensures.value c.in_err-shape.ensures.ok_part)
+    ∙ sym (malformed_by (connect c.args.earlier c.args.client.now) c.args.store.now (first-none _ _ (sym c.if-client_over.ensures) (le-ltb _ _ c.if-earlier-gt-CONNECT_CODE.false)) (sym c.shape.ensures ∙ c.in_err-shape.ensures.ok_part))
 
 pub returns-then-earlier-ge-CONNECT_KEPT : goal.returns-then-earlier-ge-CONNECT_KEPT
 unfolding keeps connect_says question_cause
 returns-then-earlier-ge-CONNECT_KEPT c =
-    let who : Client = record { id = c.args.id.now; name = given c.args.name c.args.names.now; password = given c.args.password c.args.passwords.now; address = given c.args.address c.args.addresses.now; protocol = some c.args.protocol } in
-    let asked : Question = connect c.args.earlier who in
-    let short : client_over who ≡ false = client_told who c.client_over.ensures c.if-client_over.false in
-    let within : question_cause asked ≡ none = first-none _ _ short (le-ltb _ _ c.if-earlier-gt-CONNECT_CODE.false) in
-    let laid : shape_of (view c.args.store.now) ≡ LaidOut c.in-LaidOut.shape = sym c.shape.ensures ∙ c.in-LaidOut.is in
-    sym (keeps_laid asked c.args.store.now within laid (connect_kept _ c.if-earlier-ge-CONNECT_KEPT.true c.if-earlier-gt-CONNECT_CODE.false))
+    let asked : Question = connect c.args.earlier c.args.client.now in
+    sym (keeps_laid asked c.args.store.now (first-none _ _ (sym c.if-client_over.ensures) (le-ltb _ _ c.if-earlier-gt-CONNECT_CODE.false)) (sym c.shape.ensures ∙ c.in_ok-shape.ensures.ok_part) (connect_kept _ c.if-earlier-ge-CONNECT_KEPT.true c.if-earlier-gt-CONNECT_CODE.false))
 
-pub deciding_on-requires : goal.deciding_on-requires
-deciding_on-requires c =
-    let laid : shape_of (view c.args.store.now) ≡ LaidOut c.in-LaidOut.shape = sym c.shape.ensures ∙ c.in-LaidOut.is in
-    laid
+pub returns-in-Some : goal.returns-in-Some
+unfolding allowed connect_says question_cause keeps client wish wish_of
+returns-in-Some c =
+    let asked : Question = connect c.args.earlier c.args.client.now in
+    let decided : Asks asked c.args.store.now c.in_ok-shape.shape c.deciding_on.result = record { cause = first-none _ _ (sym c.if-client_over.ensures) (le-ltb _ _ c.if-earlier-gt-CONNECT_CODE.false); laid = sym c.shape.ensures ∙ c.in_ok-shape.ensures.ok_part; new = connect_new _ c.if-earlier-ge-CONNECT_KEPT.false; told = c.deciding_on.ensures } in
+    sym (allows_laid decided c.in-Some.is c.if-by.true)
 
-pub returns-then-allow : goal.returns-then-allow
-unfolding allowed connect_says question_cause keeps client wish wish_of protocol_of
-returns-then-allow c =
-    let who : Client = record { id = c.args.id.now; name = given c.args.name c.args.names.now; password = given c.args.password c.args.passwords.now; address = given c.args.address c.args.addresses.now; protocol = some c.args.protocol } in
-    let asked : Question = connect c.args.earlier who in
-    let short : client_over who ≡ false = client_told who c.client_over.ensures c.if-client_over.false in
-    let within : question_cause asked ≡ none = first-none _ _ short (le-ltb _ _ c.if-earlier-gt-CONNECT_CODE.false) in
-    let laid : shape_of (view c.args.store.now) ≡ LaidOut c.in-LaidOut.shape = sym c.shape.ensures ∙ c.in-LaidOut.is in
-    let decided : Asks asked c.args.store.now c.in-LaidOut.shape c.deciding_on.result = record { cause = within; laid = laid; new = connect_new _ c.if-earlier-ge-CONNECT_KEPT.false; told = c.deciding_on.ensures } in
-    sym (allows_laid decided c.in-Rule.is c.if-allow.true)
+pub returns-in-Some-2 : goal.returns-in-Some-2
+unfolding refusal connect_says question_cause keeps client wish wish_of
+returns-in-Some-2 c =
+    let asked : Question = connect c.args.earlier c.args.client.now in
+    let decided : Asks asked c.args.store.now c.in_ok-shape.shape c.deciding_on.result = record { cause = first-none _ _ (sym c.if-client_over.ensures) (le-ltb _ _ c.if-earlier-gt-CONNECT_CODE.false); laid = sym c.shape.ensures ∙ c.in_ok-shape.ensures.ok_part; new = connect_new _ c.if-earlier-ge-CONNECT_KEPT.false; told = c.deciding_on.ensures } in
+    sym (refuses_laid decided c.in-Some.is c.if-by.false)
 
-pub returns-in-NoRule : goal.returns-in-NoRule
-unfolding refusal connect_says question_cause keeps client wish wish_of protocol_of
-returns-in-NoRule c =
-    let who : Client = record { id = c.args.id.now; name = given c.args.name c.args.names.now; password = given c.args.password c.args.passwords.now; address = given c.args.address c.args.addresses.now; protocol = some c.args.protocol } in
-    let asked : Question = connect c.args.earlier who in
-    let short : client_over who ≡ false = client_told who c.client_over.ensures c.if-client_over.false in
-    let within : question_cause asked ≡ none = first-none _ _ short (le-ltb _ _ c.if-earlier-gt-CONNECT_CODE.false) in
-    let laid : shape_of (view c.args.store.now) ≡ LaidOut c.in-LaidOut.shape = sym c.shape.ensures ∙ c.in-LaidOut.is in
-    let decided : Asks asked c.args.store.now c.in-LaidOut.shape c.deciding_on.result = record { cause = within; laid = laid; new = connect_new _ c.if-earlier-ge-CONNECT_KEPT.false; told = c.deciding_on.ensures } in
-    sym (none_laid decided c.in-NoRule.is)
-
-pub returns-else-allow : goal.returns-else-allow
-unfolding refusal connect_says question_cause keeps client wish wish_of protocol_of
-returns-else-allow c =
-    let who : Client = record { id = c.args.id.now; name = given c.args.name c.args.names.now; password = given c.args.password c.args.passwords.now; address = given c.args.address c.args.addresses.now; protocol = some c.args.protocol } in
-    let asked : Question = connect c.args.earlier who in
-    let short : client_over who ≡ false = client_told who c.client_over.ensures c.if-client_over.false in
-    let within : question_cause asked ≡ none = first-none _ _ short (le-ltb _ _ c.if-earlier-gt-CONNECT_CODE.false) in
-    let laid : shape_of (view c.args.store.now) ≡ LaidOut c.in-LaidOut.shape = sym c.shape.ensures ∙ c.in-LaidOut.is in
-    let decided : Asks asked c.args.store.now c.in-LaidOut.shape c.deciding_on.result = record { cause = within; laid = laid; new = connect_new _ c.if-earlier-ge-CONNECT_KEPT.false; told = c.deciding_on.ensures } in
-    sym (refuses_laid decided c.in-Rule.is c.if-allow.false)
+pub returns-in-None : goal.returns-in-None
+unfolding refusal connect_says question_cause keeps client wish wish_of
+returns-in-None c =
+    let asked : Question = connect c.args.earlier c.args.client.now in
+    let decided : Asks asked c.args.store.now c.in_ok-shape.shape c.deciding_on.result = record { cause = first-none _ _ (sym c.if-client_over.ensures) (le-ltb _ _ c.if-earlier-gt-CONNECT_CODE.false); laid = sym c.shape.ensures ∙ c.in_ok-shape.ensures.ok_part; new = connect_new _ c.if-earlier-ge-CONNECT_KEPT.false; told = c.deciding_on.ensures } in
+    sym (none_laid decided c.in-None.is)

@@ -1,112 +1,62 @@
 -- `questions::ask::subscribe` meets its contract: each answer follows from the tests before it, in their order. Assumes nothing.
-use mathlib.Core.Path.{◌≡◌, sym, ◌∙◌}
-use mathlib.Core.Bool.{false}
-use mathlib.Core.Option.{none}
+use mathlib.Core.Path.{sym, ap, ◌∙◌}
 use borrow.Author.Tests.{lt-ltb, le-ltb}
-use lib.Dec.{ltb}
-use Rattle.rule.specs.Identity.{Client}
-use Rattle.rule.specs.Places.{given}
 use Rattle.rule.specs.Refusals.{number}
-use Rattle.store.specs.View.{view}
-use Rattle.store.specs.Check.{shape_of}
-use Rattle.store.specs.declared.ShapeRead.TheVariants.{LaidOut}
-use Rattle.questions.specs.Question.{Question, subscribe, code_limit, client_over, question_cause}
+use Rattle.questions.specs.Question.{Question, subscribe, question_cause}
 use Rattle.questions.specs.Decision.{client, wish, keeps, refusal}
-use Rattle.questions.specs.Parts.{wish_of, protocol_of}
+use Rattle.questions.specs.Parts.{wish_of}
 use Rattle.questions.specs.Answers.{subscribe_says}
-use Rattle.questions.proofs.AskLaws.{refuses_by, malformed_by, allowed, keeps_laid, Asks, none_laid, allows_laid, refuses_laid, first-long, first-wrong, first-none, either_first, either_second, neither, client_told, code_kept, code_new}
+use Rattle.questions.proofs.AskLaws.{malformed_answer, refuses_by, malformed_by, allowed, keeps_laid, Asks, none_laid, allows_laid, refuses_laid, first-long, first-wrong, first-none, either_first, either_second, neither, code_kept, code_new}
+use Rattle.questions.proofs.ask.subscribe.Goals.{then-client_over-via-then-client_over, then-client_over-via-else-client_over+then-topic-gt-TEXT, then-earlier-gt-CODE-via-then-earlier-gt-CODE, then-earlier-gt-CODE-via-else-earlier-gt-CODE+then-qos-gt-QOS}
 use Rattle.questions.proofs.ask.subscribe.Goals as goal
 
 pub returns-then-client_over : goal.returns-then-client_over
 unfolding question_cause subscribe_says number
 returns-then-client_over c =
-    let who : Client = record { id = c.args.id.now; name = given c.args.name c.args.names.now; password = given c.args.password c.args.passwords.now; address = given c.args.address c.args.addresses.now; protocol = protocol_of c.args.protocol } in
-    let asked : Question = subscribe c.args.earlier who c.args.topic.now c.args.qos in
-    sym (refuses_by asked c.args.store.now (first-long _ _ (either_first (client_over who) _ (client_told who c.client_over.ensures c.if-client_over.true))))
-
-pub returns-then-topic-gt-TEXT : goal.returns-then-topic-gt-TEXT
-unfolding question_cause subscribe_says number
-returns-then-topic-gt-TEXT c =
-    let who : Client = record { id = c.args.id.now; name = given c.args.name c.args.names.now; password = given c.args.password c.args.passwords.now; address = given c.args.address c.args.addresses.now; protocol = protocol_of c.args.protocol } in
-    let asked : Question = subscribe c.args.earlier who c.args.topic.now c.args.qos in
-    sym (refuses_by asked c.args.store.now (first-long _ _ (either_second (client_over who) _ (lt-ltb _ _ c.if-topic-gt-TEXT.true))))
+    sym (refuses_by (subscribe c.args.earlier c.args.client.now c.args.topic.now c.args.qos) c.args.store.now (first-long _ _
+    (elim c.then-client_over.branch [
+      | then-client_over-via-then-client_over w ↦ either_first _ _ (sym w.if-client_over.ensures)
+      | then-client_over-via-else-client_over+then-topic-gt-TEXT w ↦ either_second _ _ (lt-ltb _ _ w.if-topic-gt-TEXT.true)
+    ])))
 
 pub returns-then-earlier-gt-CODE : goal.returns-then-earlier-gt-CODE
 unfolding question_cause subscribe_says number
 returns-then-earlier-gt-CODE c =
-    let who : Client = record { id = c.args.id.now; name = given c.args.name c.args.names.now; password = given c.args.password c.args.passwords.now; address = given c.args.address c.args.addresses.now; protocol = protocol_of c.args.protocol } in
-    let asked : Question = subscribe c.args.earlier who c.args.topic.now c.args.qos in
-    let short : client_over who ≡ false = client_told who c.client_over.ensures c.if-client_over.false in
-    let fits = neither (client_over who) _ short (le-ltb _ _ c.if-topic-gt-TEXT.false) in
-    sym (refuses_by asked c.args.store.now (first-wrong _ _ fits (either_first _ _ (lt-ltb _ _ c.if-earlier-gt-CODE.true))))
+    sym (refuses_by (subscribe c.args.earlier c.args.client.now c.args.topic.now c.args.qos) c.args.store.now (first-wrong _ _ (neither _ _ (sym c.if-client_over.ensures) (le-ltb _ _ c.if-topic-gt-TEXT.false))
+    (elim c.then-earlier-gt-CODE.branch [
+      | then-earlier-gt-CODE-via-then-earlier-gt-CODE w ↦ either_first _ _ (lt-ltb _ _ w.if-earlier-gt-CODE.true)
+      | then-earlier-gt-CODE-via-else-earlier-gt-CODE+then-qos-gt-QOS w ↦ either_second _ _ (lt-ltb _ _ w.if-qos-gt-QOS.true)
+    ])))
 
-pub returns-then-qos-gt-QOS : goal.returns-then-qos-gt-QOS
-unfolding question_cause subscribe_says number
-returns-then-qos-gt-QOS c =
-    let who : Client = record { id = c.args.id.now; name = given c.args.name c.args.names.now; password = given c.args.password c.args.passwords.now; address = given c.args.address c.args.addresses.now; protocol = protocol_of c.args.protocol } in
-    let asked : Question = subscribe c.args.earlier who c.args.topic.now c.args.qos in
-    let short : client_over who ≡ false = client_told who c.client_over.ensures c.if-client_over.false in
-    let fits = neither (client_over who) _ short (le-ltb _ _ c.if-topic-gt-TEXT.false) in
-    sym (refuses_by asked c.args.store.now (first-wrong _ _ fits (either_second (ltb code_limit c.args.earlier) _ (lt-ltb _ _ c.if-qos-gt-QOS.true))))
-
-pub returns-in_default : goal.returns-in_default
+pub returns-in_err-shape : goal.returns-in_err-shape
 unfolding subscribe_says number question_cause
-returns-in_default c =
-    let who : Client = record { id = c.args.id.now; name = given c.args.name c.args.names.now; password = given c.args.password c.args.passwords.now; address = given c.args.address c.args.addresses.now; protocol = protocol_of c.args.protocol } in
-    let asked : Question = subscribe c.args.earlier who c.args.topic.now c.args.qos in
-    let short : client_over who ≡ false = client_told who c.client_over.ensures c.if-client_over.false in
-    let within : question_cause asked ≡ none = first-none _ _ (neither (client_over who) _ short (le-ltb _ _ c.if-topic-gt-TEXT.false))
-    (neither _ _ (le-ltb _ _ c.if-earlier-gt-CODE.false) (le-ltb _ _ c.if-qos-gt-QOS.false)) in
-    sym (malformed_by asked c.args.store.now within (sym c.shape.ensures ∙ c.in_default.is))
+returns-in_err-shape c =
+    ap subscribe_says (malformed_answer c.from_residual.ensures.1 c.in_err-shape.ensures.value c.in_err-shape.ensures.ok_part)
+    ∙ sym (malformed_by (subscribe c.args.earlier c.args.client.now c.args.topic.now c.args.qos) c.args.store.now (first-none _ _ (neither _ _ (sym c.if-client_over.ensures) (le-ltb _ _ c.if-topic-gt-TEXT.false)) (neither _ _ (le-ltb _ _ c.if-earlier-gt-CODE.false) (le-ltb _ _ c.if-qos-gt-QOS.false))) (sym c.shape.ensures ∙ c.in_err-shape.ensures.ok_part))
 
 pub returns-then-earlier-eq-CODE : goal.returns-then-earlier-eq-CODE
 unfolding keeps subscribe_says question_cause
 returns-then-earlier-eq-CODE c =
-    let who : Client = record { id = c.args.id.now; name = given c.args.name c.args.names.now; password = given c.args.password c.args.passwords.now; address = given c.args.address c.args.addresses.now; protocol = protocol_of c.args.protocol } in
-    let asked : Question = subscribe c.args.earlier who c.args.topic.now c.args.qos in
-    let short : client_over who ≡ false = client_told who c.client_over.ensures c.if-client_over.false in
-    let within : question_cause asked ≡ none = first-none _ _ (neither (client_over who) _ short (le-ltb _ _ c.if-topic-gt-TEXT.false))
-    (neither _ _ (le-ltb _ _ c.if-earlier-gt-CODE.false) (le-ltb _ _ c.if-qos-gt-QOS.false)) in
-    let laid : shape_of (view c.args.store.now) ≡ LaidOut c.in-LaidOut.shape = sym c.shape.ensures ∙ c.in-LaidOut.is in
-    sym (keeps_laid asked c.args.store.now within laid (code_kept _ c.if-earlier-eq-CODE.true))
+    let asked : Question = subscribe c.args.earlier c.args.client.now c.args.topic.now c.args.qos in
+    sym (keeps_laid asked c.args.store.now (first-none _ _ (neither _ _ (sym c.if-client_over.ensures) (le-ltb _ _ c.if-topic-gt-TEXT.false)) (neither _ _ (le-ltb _ _ c.if-earlier-gt-CODE.false) (le-ltb _ _ c.if-qos-gt-QOS.false))) (sym c.shape.ensures ∙ c.in_ok-shape.ensures.ok_part) (code_kept _ c.if-earlier-eq-CODE.true))
 
-pub deciding_on-requires : goal.deciding_on-requires
-deciding_on-requires c =
-    let laid : shape_of (view c.args.store.now) ≡ LaidOut c.in-LaidOut.shape = sym c.shape.ensures ∙ c.in-LaidOut.is in
-    laid
-
-pub returns-then-allow : goal.returns-then-allow
+pub returns-in-Some : goal.returns-in-Some
 unfolding allowed subscribe_says question_cause keeps client wish wish_of
-returns-then-allow c =
-    let who : Client = record { id = c.args.id.now; name = given c.args.name c.args.names.now; password = given c.args.password c.args.passwords.now; address = given c.args.address c.args.addresses.now; protocol = protocol_of c.args.protocol } in
-    let asked : Question = subscribe c.args.earlier who c.args.topic.now c.args.qos in
-    let short : client_over who ≡ false = client_told who c.client_over.ensures c.if-client_over.false in
-    let within : question_cause asked ≡ none = first-none _ _ (neither (client_over who) _ short (le-ltb _ _ c.if-topic-gt-TEXT.false))
-    (neither _ _ (le-ltb _ _ c.if-earlier-gt-CODE.false) (le-ltb _ _ c.if-qos-gt-QOS.false)) in
-    let laid : shape_of (view c.args.store.now) ≡ LaidOut c.in-LaidOut.shape = sym c.shape.ensures ∙ c.in-LaidOut.is in
-    let decided : Asks asked c.args.store.now c.in-LaidOut.shape c.deciding_on.result = record { cause = within; laid = laid; new = code_new _ c.if-earlier-eq-CODE.false; told = c.deciding_on.ensures } in
-    sym (allows_laid decided c.in-Rule.is c.if-allow.true)
+returns-in-Some c =
+    let asked : Question = subscribe c.args.earlier c.args.client.now c.args.topic.now c.args.qos in
+    let decided : Asks asked c.args.store.now c.in_ok-shape.shape c.deciding_on.result = record { cause = first-none _ _ (neither _ _ (sym c.if-client_over.ensures) (le-ltb _ _ c.if-topic-gt-TEXT.false)) (neither _ _ (le-ltb _ _ c.if-earlier-gt-CODE.false) (le-ltb _ _ c.if-qos-gt-QOS.false)); laid = sym c.shape.ensures ∙ c.in_ok-shape.ensures.ok_part; new = code_new _ c.if-earlier-eq-CODE.false; told = c.deciding_on.ensures } in
+    sym (allows_laid decided c.in-Some.is c.if-by.true)
 
-pub returns-in-NoRule : goal.returns-in-NoRule
+pub returns-in-Some-2 : goal.returns-in-Some-2
 unfolding refusal subscribe_says question_cause keeps client wish wish_of
-returns-in-NoRule c =
-    let who : Client = record { id = c.args.id.now; name = given c.args.name c.args.names.now; password = given c.args.password c.args.passwords.now; address = given c.args.address c.args.addresses.now; protocol = protocol_of c.args.protocol } in
-    let asked : Question = subscribe c.args.earlier who c.args.topic.now c.args.qos in
-    let short : client_over who ≡ false = client_told who c.client_over.ensures c.if-client_over.false in
-    let within : question_cause asked ≡ none = first-none _ _ (neither (client_over who) _ short (le-ltb _ _ c.if-topic-gt-TEXT.false))
-    (neither _ _ (le-ltb _ _ c.if-earlier-gt-CODE.false) (le-ltb _ _ c.if-qos-gt-QOS.false)) in
-    let laid : shape_of (view c.args.store.now) ≡ LaidOut c.in-LaidOut.shape = sym c.shape.ensures ∙ c.in-LaidOut.is in
-    let decided : Asks asked c.args.store.now c.in-LaidOut.shape c.deciding_on.result = record { cause = within; laid = laid; new = code_new _ c.if-earlier-eq-CODE.false; told = c.deciding_on.ensures } in
-    sym (none_laid decided c.in-NoRule.is)
+returns-in-Some-2 c =
+    let asked : Question = subscribe c.args.earlier c.args.client.now c.args.topic.now c.args.qos in
+    let decided : Asks asked c.args.store.now c.in_ok-shape.shape c.deciding_on.result = record { cause = first-none _ _ (neither _ _ (sym c.if-client_over.ensures) (le-ltb _ _ c.if-topic-gt-TEXT.false)) (neither _ _ (le-ltb _ _ c.if-earlier-gt-CODE.false) (le-ltb _ _ c.if-qos-gt-QOS.false)); laid = sym c.shape.ensures ∙ c.in_ok-shape.ensures.ok_part; new = code_new _ c.if-earlier-eq-CODE.false; told = c.deciding_on.ensures } in
+    sym (refuses_laid decided c.in-Some.is c.if-by.false)
 
-pub returns-else-allow : goal.returns-else-allow
+pub returns-in-None : goal.returns-in-None
 unfolding refusal subscribe_says question_cause keeps client wish wish_of
-returns-else-allow c =
-    let who : Client = record { id = c.args.id.now; name = given c.args.name c.args.names.now; password = given c.args.password c.args.passwords.now; address = given c.args.address c.args.addresses.now; protocol = protocol_of c.args.protocol } in
-    let asked : Question = subscribe c.args.earlier who c.args.topic.now c.args.qos in
-    let short : client_over who ≡ false = client_told who c.client_over.ensures c.if-client_over.false in
-    let within : question_cause asked ≡ none = first-none _ _ (neither (client_over who) _ short (le-ltb _ _ c.if-topic-gt-TEXT.false))
-    (neither _ _ (le-ltb _ _ c.if-earlier-gt-CODE.false) (le-ltb _ _ c.if-qos-gt-QOS.false)) in
-    let laid : shape_of (view c.args.store.now) ≡ LaidOut c.in-LaidOut.shape = sym c.shape.ensures ∙ c.in-LaidOut.is in
-    let decided : Asks asked c.args.store.now c.in-LaidOut.shape c.deciding_on.result = record { cause = within; laid = laid; new = code_new _ c.if-earlier-eq-CODE.false; told = c.deciding_on.ensures } in
-    sym (refuses_laid decided c.in-Rule.is c.if-allow.false)
+returns-in-None c =
+    let asked : Question = subscribe c.args.earlier c.args.client.now c.args.topic.now c.args.qos in
+    let decided : Asks asked c.args.store.now c.in_ok-shape.shape c.deciding_on.result = record { cause = first-none _ _ (neither _ _ (sym c.if-client_over.ensures) (le-ltb _ _ c.if-topic-gt-TEXT.false)) (neither _ _ (le-ltb _ _ c.if-earlier-gt-CODE.false) (le-ltb _ _ c.if-qos-gt-QOS.false)); laid = sym c.shape.ensures ∙ c.in_ok-shape.ensures.ok_part; new = code_new _ c.if-earlier-eq-CODE.false; told = c.deciding_on.ensures } in
+    sym (none_laid decided c.in-None.is)

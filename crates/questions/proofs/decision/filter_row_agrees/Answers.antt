@@ -1,48 +1,26 @@
--- `questions::decision::filter_row_agrees` meets its contract. The loop's invariant: `at` is at most the part's length, and one of the rows
--- from `at` on agrees if and only if one of all does. The measure is what is left of the part. Assumes nothing.
-use mathlib.Core.Path.{refl, sym, ◌∙◌}
+-- The chunks are the rows. Assumes nothing.
+use mathlib.Core.Path.{sym, ◌∙◌}
+use borrow.Author.Rules.{rules}
 use native.Mathlib.Omega.{arith}
-use Rattle.store.specs.Layout.{filter_codec}
-use Rattle.store.proofs.PartLaws.{rows_from, some_more, some_none}
+use Prim.Native.Nat.{ℕ}
+use mathlib.Core.Bool.{Bool}
+use mathlib.Core.List.{List}
+use lib.ListN.{length}
+use Rattle.std.proofs.lemmas.Iterator.Search.{any_from_yields_List}
+use Rattle.table.specs.Bytes.{rows}
+use Rattle.table.proofs.TableLaws.{some_map}
+use Rattle.table.proofs.ChunkLaws.{YieldsList-from_rows, some_row-any}
+use Rattle.store.specs.Layout.{filter_codec, get_all}
+use Rattle.questions.specs.Decision.{filter_agrees}
 use Rattle.questions.specs.Parts.{filter_rows}
-use Rattle.questions.proofs.DecisionLaws.{filter_text_lem, filter_owner_lem, filter_other}
 use Rattle.questions.proofs.PassLaws.{known_match}
 use Rattle.questions.proofs.decision.filter_row_agrees.Goals as goal
 
-pub loop-at-init : goal.loop-at-init
-unfolding rows_from filter_rows
-loop-at-init c =
-    (omega arith, refl)
-
-pub returns-then-tree_match_known : goal.returns-then-tree_match_known
-unfolding filter_codec
-returns-then-tree_match_known c =
-    let owned = filter_text_lem _ _ _ c.number_at.ensures _ c.if-number_at-rule.true c.filter_owner.ensures c.same.ensures c.if-same.true in
-    let told = c.tree_match_known.ensures ∙ known_match _ _ c.requires in
-    let agrees = owned c.filter_text.ensures told c.if-tree_match_known.true in
-    sym (some_more filter_codec c.loop-at.at _ _ (omega arith) (omega arith) agrees) ∙ c.loop-at.invariant.1
-
-pub loop-at-preserved-else-tree_match_known : goal.loop-at-preserved-else-tree_match_known
-unfolding filter_codec
-loop-at-preserved-else-tree_match_known c =
-    let owned = filter_text_lem _ _ _ c.number_at.ensures _ c.if-number_at-rule.true c.filter_owner.ensures c.same.ensures c.if-same.true in
-    let told = c.tree_match_known.ensures ∙ known_match _ _ c.requires in
-    let agrees = owned c.filter_text.ensures told c.if-tree_match_known.false in
-    (omega arith, sym (some_more filter_codec c.loop-at.at _ _ (omega arith) (omega arith) agrees) ∙ c.loop-at.invariant.1)
-
-pub loop-at-preserved-else-same : goal.loop-at-preserved-else-same
-unfolding filter_codec
-loop-at-preserved-else-same c =
-    let agrees = filter_owner_lem _ c.args.topic.now _ c.number_at.ensures _ c.if-number_at-rule.true c.filter_owner.ensures c.same.ensures c.if-same.false in
-    (omega arith, sym (some_more filter_codec c.loop-at.at _ _ (omega arith) (omega arith) agrees) ∙ c.loop-at.invariant.1)
-
-pub loop-at-preserved : goal.loop-at-preserved
-unfolding filter_codec
-loop-at-preserved c =
-    let agrees = filter_other _ c.args.topic.now _ c.number_at.ensures c.args.id.now c.if-number_at-rule.false in
-    (omega arith, sym (some_more filter_codec c.loop-at.at _ _ (omega arith) (omega arith) agrees) ∙ c.loop-at.invariant.1)
-
 pub returns : goal.returns
-unfolding filter_codec
+unfolding filter_rows get_all filter_codec filter_agrees
 returns c =
-    sym (some_none filter_codec c.loop-at.at _ _ c.loop-at-test.false) ∙ c.loop-at.invariant.1
+    let part = c.args.filters.now in
+    let test : List ℕ → Bool = λ b. filter_agrees c.args.rule c.args.id.now c.args.topic.now (filter_codec.get b) in
+    let of_rows = YieldsList-from_rows 326 (length part) part c.chunks_exact.ensures.rest c.chunks_exact.ensures.size (omega arith) in
+    any_from_yields_List test _ _ c.any.result c.any.ensures.ran of_rows (λ x b q k. search (rules, known_match))
+    ∙ (some_row-any test (rows 326 (length part) part) ∙ sym (some_map (filter_agrees c.args.rule c.args.id.now c.args.topic.now) filter_codec.get (rows 326 (length part) part)))

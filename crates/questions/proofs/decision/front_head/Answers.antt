@@ -1,21 +1,22 @@
 -- The users differ, or behind them the control covers what is asked or not; the line is a rule, so these are its own. Assumes nothing.
-use mathlib.Core.Path.{sym, ap, ◌∙◌}
+use mathlib.Core.Path.{refl, sym}
 use Rattle.rule.proofs.FrontLaws.{front_told, rest_told}
-use Rattle.questions.specs.declared.Head.TheVariants.{Agrees}
 use Rattle.questions.proofs.PassLaws.{front_differs, front_agrees}
 use Rattle.questions.proofs.decision.front_head.Goals as goal
 
-pub returns-in_default-identity : goal.returns-in_default-identity
-returns-in_default-identity c =
-    let told = front_told c.args.line.now (sym c.access_end.ensures ∙ c.in-Access.is) (sym c.users_end.ensures ∙ c.in-Users.is) in
-    sym (front_differs c.args.asked c.args.line.now _ _ _ _ c.args.protocol c.requires _ _ _ told (sym c.identity.ensures ∙ c.in_default-identity.is))
+pub returns-in_default : goal.returns-in_default
+returns-in_default c =
+    let told = front_told c.args.line.now (sym c.in_ok-access.ensures) (sym c.in_ok-users.ensures) in
+    front_differs _ _ _ c.requires _ _ _ told c.in_default.ensures
 
 pub returns-then-not-covers : goal.returns-then-not-covers
 returns-then-not-covers c =
-    let told = front_told c.args.line.now (sym c.access_end.ensures ∙ c.in-Access.is) (sym c.users_end.ensures ∙ c.in-Users.is) in
-    sym (front_agrees c.args.asked c.args.line.now _ _ _ _ c.args.protocol c.requires _ _ _ told (sym c.identity.ensures ∙ c.in-Agrees.is) (rest_told c.args.line.now _ (sym c.rest.ensures ∙ c.in-Rest.is)) (sym c.covers.ensures ∙ c.if-not-covers.true))
+    let told = front_told c.args.line.now (sym c.in_ok-access.ensures) (sym c.in_ok-users.ensures) in
+    let rest = rest_told c.args.line.now _ (sym c.in_ok-rest.ensures) in
+    front_agrees _ _ _ c.requires _ _ _ told c.in-Some.ensures rest c.if-not-covers.ensures refl
 
 pub returns : goal.returns
 returns c =
-    let told = front_told c.args.line.now (sym c.access_end.ensures ∙ c.in-Access.is) (sym c.users_end.ensures ∙ c.in-Users.is) in
-    ap (Agrees c.in-Access.allow c.in-Agrees.superuser) c.asked_topics.ensures ∙ sym (front_agrees c.args.asked c.args.line.now _ _ _ _ c.args.protocol c.requires _ _ _ told (sym c.identity.ensures ∙ c.in-Agrees.is) (rest_told c.args.line.now _ (sym c.rest.ensures ∙ c.in-Rest.is)) (sym c.covers.ensures ∙ c.if-not-covers.false))
+    let told = front_told c.args.line.now (sym c.in_ok-access.ensures) (sym c.in_ok-users.ensures) in
+    let rest = rest_told c.args.line.now _ (sym c.in_ok-rest.ensures) in
+    front_agrees _ _ _ c.requires _ _ _ told c.in-Some.ensures rest c.if-not-covers.ensures c.asked_topics.ensures

@@ -1,30 +1,24 @@
 -- By what `read_rule` answers, `covers` and `identity`; what `identity` says of places is what the rule means. Assumes nothing.
-use mathlib.Core.Path.{refl, sym, ap, ◌∙◌}
-use Rattle.questions.specs.declared.Head.TheVariants.{Agrees}
-use Rattle.questions.proofs.HeadLaws.{head_with, head_by, head_by_lem, head_read}
+use mathlib.Core.Path.{refl, ◌∙◌}
+use Rattle.questions.proofs.HeadLaws.{head_with, head_by, head_of_rule, head_read}
 use Rattle.questions.proofs.decision.head.Goals as goal
 
-pub returns-in_default : goal.returns-in_default
+pub returns-in_err-rule : goal.returns-in_err-rule
 unfolding head_by
-returns-in_default c =
-    sym (head_by_lem c.args.asked c.args.line.now _ _ _ _ c.args.protocol c.read_rule.ensures c.in_default.is)
+returns-in_err-rule c =
+    c.from_residual.ensures ∙ head_of_rule c.args.asked c.args.line.now c.args.client.now c.read_rule.ensures c.in_err-rule.ensures.value
 
 pub returns-then-not-covers : goal.returns-then-not-covers
 returns-then-not-covers c =
-    let covered = sym c.covers.ensures ∙ c.if-not-covers.true in
-    sym (head_read c.args.asked c.args.line.now _ _ _ _ c.args.protocol c.read_rule.ensures c.in-Rule.is covered refl)
+    head_read _ _ _ c.read_rule.ensures c.in_ok-rule.ensures.value c.if-not-covers.ensures refl refl
 
-pub returns-in-Differs : goal.returns-in-Differs
+pub returns-in_err-superuser : goal.returns-in_err-superuser
 unfolding head_with
-returns-in-Differs c =
-    let covered = sym c.covers.ensures ∙ c.if-not-covers.false in
-    let said = sym c.identity.ensures ∙ c.in-Differs.is in
-    sym (head_read c.args.asked c.args.line.now _ _ _ _ c.args.protocol c.read_rule.ensures c.in-Rule.is covered said)
+returns-in_err-superuser c =
+    c.from_residual-in_err-superuser.ensures
+    ∙ head_read _ _ _ c.read_rule.ensures c.in_ok-rule.ensures.value c.if-not-covers.ensures refl c.in_err-superuser.ensures
 
-pub returns-in-Agrees : goal.returns-in-Agrees
+pub returns : goal.returns
 unfolding head_with
-returns-in-Agrees c =
-    let covered = sym c.covers.ensures ∙ c.if-not-covers.false in
-    let said = sym c.identity.ensures ∙ c.in-Agrees.is in
-    ap (Agrees c.in-Rule.rule.allow c.in-Agrees.superuser) c.asked_topics.ensures
-    ∙ sym (head_read c.args.asked c.args.line.now _ _ _ _ c.args.protocol c.read_rule.ensures c.in-Rule.is covered said)
+returns c =
+    head_read _ _ _ c.read_rule.ensures c.in_ok-rule.ensures.value c.if-not-covers.ensures c.asked_topics.ensures c.in_ok-superuser.ensures

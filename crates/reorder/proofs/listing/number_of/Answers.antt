@@ -3,12 +3,12 @@ use Rattle.events.specs.Event.{says}
 use Rattle.reorder.specs.Listing.{recorded}
 use Rattle.reorder.proofs.listing.number_of.Goals as goal
 
-pub returns-in-Done : goal.returns-in-Done
+pub returns-in-Ok : goal.returns-in-Ok
 unfolding recorded says
-returns-in-Done c =
-    rw c.in-Done.is
+returns-in-Ok c =
+    rw c.in-Ok.is
 
-pub returns-in-Refused : goal.returns-in-Refused
+pub returns-in-Err : goal.returns-in-Err
 unfolding recorded says
-returns-in-Refused c =
-    rw c.in-Refused.is c.refusal_number.ensures
+returns-in-Err c =
+    rw c.in-Err.is c.refusal_number.ensures

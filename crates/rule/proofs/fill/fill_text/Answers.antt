@@ -1,28 +1,56 @@
--- Where the text between the passes has no room in 256 bytes, the two passes are gone through once more. Assumes nothing.
-use mathlib.Core.Path.{sym}
-use lib.ListN.{replicate}
-use lib.Seq.{length-take-le}
-use Rattle.rule.specs.Places.{given}
-use Rattle.rule.proofs.FillLaws.{template_over, id_over, not_filled, first_room, first_front, filled_by}
+-- A short text between the passes, or a long one. Assumes nothing.
+use Rattle.std.specs.Option.{option_copied}
+use mathlib.Core.Logic.{inl, inr}
+use mathlib.Core.Path.{◌≡◌}
+use mathlib.Core.Bool.{false}
+use Rattle.rule.specs.Places.{fillable}
+use Rattle.rule.proofs.FillLaws.{template_over, id_over, not_filled, through_filled, second_filled, second_fits}
 use Rattle.rule.proofs.fill.fill_text.Goals as goal
 
-pub returns-then-template-gt-TEXT : goal.returns-then-template-gt-TEXT
-returns-then-template-gt-TEXT c =
-    let whole = not_filled c.args.buffer.now c.args.template.now c.args.id.now (given c.args.name c.args.names.now) (template_over c.args.template.now c.args.id.now c.if-template-gt-TEXT.true) in record { value = whole.0; buffer_after = whole.1 }
+unfillable : (c : goal.Joined-then-template-gt-TEXT) → fillable c.args.template.now c.args.id.now ≡ false
+unfillable c =
+    elim c.then-template-gt-TEXT.either [
+      | inl h ↦ template_over c.args.template.now c.args.id.now h
+      | inr h ↦ id_over c.args.template.now c.args.id.now h.1
+    ]
 
-pub returns-then-id-gt-ID : goal.returns-then-id-gt-ID
-returns-then-id-gt-ID c =
-    let whole = not_filled c.args.buffer.now c.args.template.now c.args.id.now (given c.args.name c.args.names.now) (id_over c.args.template.now c.args.id.now c.if-id-gt-ID.true) in record { value = whole.0; buffer_after = whole.1 }
+pub returns-then-template-gt-TEXT-clause-value : goal.returns-then-template-gt-TEXT-clause-value
+returns-then-template-gt-TEXT-clause-value c =
+    (not_filled c.args.buffer.now c.args.template.now c.args.id.now (option_copied c.args.name) (unfillable c)).0
 
-pub slice_bounds-between-end : goal.slice_bounds-between-end
-slice_bounds-between-end c =
-    first_room c.args.template.now c.args.id.now (replicate 256 0) c.replace.ensures.value c.replace.ensures.buffer_after c.in-Length.is
+pub returns-then-template-gt-TEXT-clause-buffer_after : goal.returns-then-template-gt-TEXT-clause-buffer_after
+returns-then-template-gt-TEXT-clause-buffer_after c =
+    (not_filled c.args.buffer.now c.args.template.now c.args.id.now (option_copied c.args.name) (unfillable c)).1
 
-pub slice_bounds-fill_name-end : goal.slice_bounds-fill_name-end
-slice_bounds-fill_name-end c =
-    sym (length-take-le c.in-Length.n _ (first_room c.args.template.now c.args.id.now (replicate 256 0) c.replace.ensures.value c.replace.ensures.buffer_after c.in-Length.is))
+no_second : (c : goal.After-from_residual) → ⊥
+no_second c =
+    second_fits c.through.new.buffer c.args.template.now c.args.id.now (option_copied c.args.name) c.if-template-gt-TEXT.false c.if-id-gt-ID.false
+    (c.through-in-None.ensures.value, c.through-in-None.ensures.buffer_after) c.in_err-through-in-None.was
 
-pub returns-in-Length : goal.returns-in-Length
-returns-in-Length c =
-    let front = first_front c.args.template.now c.args.id.now (replicate 256 0) c.replace.ensures.value c.replace.ensures.buffer_after c.in-Length.is in
-    let whole = filled_by c.args.buffer.now c.args.template.now c.args.id.now (given c.args.name c.args.names.now) c.if-template-gt-TEXT.false c.if-id-gt-ID.false front c.fill_name.ensures.value c.fill_name.ensures.buffer_after in record { value = whole.0; buffer_after = whole.1 }
+pub returns-in_err-through-in-None-clause-value : goal.returns-in_err-through-in-None-clause-value
+returns-in_err-through-in-None-clause-value c = absurd (no_second c)
+
+pub returns-in_err-through-in-None-clause-buffer_after : goal.returns-in_err-through-in-None-clause-buffer_after
+returns-in_err-through-in-None-clause-buffer_after c = absurd (no_second c)
+
+pub returns-in-Some-clause-value : goal.returns-in-Some-clause-value
+returns-in-Some-clause-value c =
+    (through_filled 256 c.args.buffer.now c.args.template.now c.args.id.now (option_copied c.args.name) c.if-template-gt-TEXT.false c.if-id-gt-ID.false
+    (c.through.ensures.value, c.through.ensures.buffer_after) c.in-Some.is).0
+
+pub returns-in-Some-clause-buffer_after : goal.returns-in-Some-clause-buffer_after
+returns-in-Some-clause-buffer_after c =
+    (through_filled 256 c.args.buffer.now c.args.template.now c.args.id.now (option_copied c.args.name) c.if-template-gt-TEXT.false c.if-id-gt-ID.false
+    (c.through.ensures.value, c.through.ensures.buffer_after) c.in-Some.is).1
+
+pub returns-in_ok-through-in-None-clause-value : goal.returns-in_ok-through-in-None-clause-value
+returns-in_ok-through-in-None-clause-value c =
+    (second_filled c.args.buffer.now c.args.template.now c.args.id.now (option_copied c.args.name) c.if-template-gt-TEXT.false c.if-id-gt-ID.false
+    (c.through.ensures.value, c.through.ensures.buffer_after) c.in-None.is (c.through-in-None.ensures.value, c.through-in-None.ensures.buffer_after)
+    c.in_ok-through-in-None.was).0
+
+pub returns-in_ok-through-in-None-clause-buffer_after : goal.returns-in_ok-through-in-None-clause-buffer_after
+returns-in_ok-through-in-None-clause-buffer_after c =
+    (second_filled c.args.buffer.now c.args.template.now c.args.id.now (option_copied c.args.name) c.if-template-gt-TEXT.false c.if-id-gt-ID.false
+    (c.through.ensures.value, c.through.ensures.buffer_after) c.in-None.is (c.through-in-None.ensures.value, c.through-in-None.ensures.buffer_after)
+    c.in_ok-through-in-None.was).1

@@ -4,16 +4,16 @@ use Rattle.rule.specs.Members.{places_at}
 use Rattle.rule.proofs.MemberLaws.{users_absent, users_listed_lem}
 use Rattle.rule.proofs.listed.listed_users.Goals as goal
 
-pub returns-in_default : goal.returns-in_default
-returns-in_default c =
-    sym (users_absent c.args.allow c.args.line.now c.args.at (sym c.skip_value.ensures ∙ c.in_default.is))
+pub returns-in_err-skip_value : goal.returns-in_err-skip_value
+returns-in_err-skip_value c =
+    c.from_residual.ensures ∙ sym (users_absent c.args.allow c.args.line.now c.args.at (sym c.in_err-skip_value.ensures))
 
 pub returns : goal.returns
 unfolding places_at
 returns c =
     c.users_of.ensures
     ∙ sym
-    (users_listed_lem c.args.allow c.args.line.now c.args.at (sym c.skip_value.ensures ∙ c.in-At.is)
+    (users_listed_lem c.args.allow c.args.line.now c.args.at (sym c.in_ok-skip_value.ensures)
     (λ i.
     record {
       user = c.member.ensures i;

@@ -1,12 +1,10 @@
--- The value is passed over, and is a topic or not. Assumes nothing.
+-- The topic was read where its value was passed over. Assumes nothing.
+use Rattle.std.specs.Prelude.{is_some}
 use mathlib.Core.Path.{sym, ap, ◌∙◌}
-use Rattle.rule.specs.Places.{is_topic}
-use Rattle.rule.specs.OnePass.{PartTo}
-use Rattle.rule.proofs.TopicLaws.{good_topic}
-use Rattle.rule.proofs.OnePassLaws.{answered, value_topic}
+use Rattle.rule.proofs.OnePassLaws.{value_topic}
 use Rattle.rule.proofs.one_pass.topic_passed.Goals as goal
 
-pub returns : goal.returns
-returns c =
-    let t = answered (PartTo 6 c.args.line.now c.args.at 0) c.in-At.is c.part_end.ensures in
-    value_topic c.args.line.now c.args.at t.reads t.short (ap is_topic (sym c.topic_at.ensures) ∙ good_topic c.topic_at.result c.in_default-topic_at.not-Bad)
+pub returns-then-is_some : goal.returns-then-is_some
+returns-then-is_some c =
+    let t = c.in_ok-end.ensures in
+    value_topic c.args.line.now c.args.at t.reads t.short (ap is_some (sym c.topic_at.ensures) ∙ (sym c.is_some.ensures ∙ c.if-is_some.true))

@@ -1,29 +1,28 @@
--- By the kind of what stands there: the word `all` is read where it is, an object's members are passed over once. Assumes nothing.
+-- By the kind of the value at the place. Assumes nothing.
 use mathlib.Core.Path.{sym, ap, ◌∙◌}
-use Rattle.rule.specs.Members.{MembersTo, UsersTo}
-use Rattle.rule.specs.Front.{users_before}
-use Rattle.rule.proofs.OnePassLaws.{members_answered, users_answered}
-use Rattle.rule.proofs.FrontLaws.{users_members, users_from, users_neither}
+use Rattle.rule.specs.Front.{told_to}
+use Rattle.rule.proofs.FrontLaws.{users_there, users_members, users_neither}
+use Rattle.rule.proofs.OnePassLaws.{answered}
+use Rattle.rule.specs.Members.{MembersTo}
 use Rattle.rule.proofs.one_pass.users_end.Goals as goal
 
-pub returns-in-Users : goal.returns-in-Users
-unfolding users_before
-returns-in-Users c =
-    sym (users_from c.args.line.now c.args.allow c.args.at (users_answered (UsersTo c.args.line.now c.args.allow c.args.at) c.in-Users.is c.everyone_end.ensures))
+pub returns-then-is_some : goal.returns-then-is_some
+returns-then-is_some c = users_there c.args.line.now c.args.allow c.args.at _ c.everyone_end-everyone.ensures (sym c.is_some.ensures ∙ c.if-is_some.true)
 
-pub returns-in-Users-users_of : goal.returns-in-Users-users_of
-unfolding users_before
-returns-in-Users-users_of c =
-    sym
-    (users_members c.args.line.now c.args.allow c.args.at (members_answered (MembersTo c.args.line.now c.args.at) c.in-Places.is c.members_end.ensures)
-    ∙ ap (users_before _) (sym c.users_of.ensures ∙ c.in-Users-users_of.is))
+pub returns-in_err-users_of-in-Object : goal.returns-in_err-users_of-in-Object
+unfolding told_to
+returns-in_err-users_of-in-Object c =
+    c.from_residual.ensures
+    ∙ sym
+    (users_members c.args.line.now c.args.allow c.args.at (answered (λ r. MembersTo c.args.line.now c.args.at r.value r.next) c.in-Some.is c.members_end.ensures)
+    ∙ ap (told_to _) (sym c.in_err-users_of-in-Object.ensures))
 
-pub returns-in-Places : goal.returns-in-Places
-unfolding users_before
-returns-in-Places c =
+pub returns-in_ok-users_of-in-Object : goal.returns-in_ok-users_of-in-Object
+unfolding told_to
+returns-in_ok-users_of-in-Object c =
     sym
-    (users_members c.args.line.now c.args.allow c.args.at (members_answered (MembersTo c.args.line.now c.args.at) c.in-Places.is c.members_end.ensures)
-    ∙ ap (users_before _) (sym c.users_of.ensures ∙ c.in_default-users_of.is))
+    (users_members c.args.line.now c.args.allow c.args.at (answered (λ r. MembersTo c.args.line.now c.args.at r.value r.next) c.in-Some.is c.members_end.ensures)
+    ∙ ap (told_to _) (sym c.in_ok-users_of-in-Object.ensures))
 
 pub returns-in_default : goal.returns-in_default
 returns-in_default c =

@@ -1,7 +1,8 @@
 -- The loop's invariant: the `n` lines before `at` are rules, so that the first fault from `at` on is the text's. The measure is what is left
 -- of the text. Assumes nothing.
 use Prim.Native.Nat.{◌-◌, ◌≤◌}
-use mathlib.Core.Path.{◌≡◌, refl, ◌∙◌}
+use Rattle.std.specs.Prelude.{Err}
+use mathlib.Core.Path.{◌≡◌, refl, ap, ◌∙◌}
 use native.Mathlib.Omega.{arith}
 use lib.ListN.{length, take, drop}
 use Rattle.json_text.specs.Lines.{line_at}
@@ -26,11 +27,11 @@ pub faulty_line-requires : goal.faulty_line-requires
 faulty_line-requires c =
     record { at_in_bounds = omega (arith, c.loop-at-test.true); n_le_lines_limit = c.loop-at.invariant.few }
 
-pub returns-in-Refused : goal.returns-in-Refused
-returns-in-Refused c =
+pub returns-in-Err : goal.returns-in-Err
+returns-in-Err c =
     let line : take (c.line_end-end.result - c.loop-at.at) (drop c.loop-at.at c.args.text.now) ≡ line_at c.args.text.now c.loop-at.at = rw c.line_end-end.ensures (line_part c.args.text.now c.loop-at.at) in
-    c.faulty_line.ensures
-    ∙ read_faulty _ _ _ c.loop-at.invariant c.loop-at-test.true (line) c.read_rule.ensures c.in-Refused.is
+    ap Err c.faulty_line.ensures
+    ∙ read_faulty _ _ _ c.loop-at.invariant c.loop-at-test.true (line) c.read_rule.ensures c.in-Err.is
 
 pub overflow_add-at : goal.overflow_add-at
 overflow_add-at c =
@@ -48,7 +49,7 @@ loop-at-smaller c =
 pub loop-at-preserved : goal.loop-at-preserved
 loop-at-preserved c =
     let line : take (c.line_end-end.result - c.loop-at.at) (drop c.loop-at.at c.args.text.now) ≡ line_at c.args.text.now c.loop-at.at = rw c.line_end-end.ensures (line_part c.args.text.now c.loop-at.at) in
-    read_more _ _ _ _ c.loop-at.invariant c.loop-at-test.true c.if-n-eq-LINES.false c.line_end-end.ensures (line) c.read_rule.ensures c.in-Rule.is
+    read_more _ _ _ _ c.loop-at.invariant c.loop-at-test.true c.if-n-eq-LINES.false c.line_end-end.ensures (line) c.read_rule.ensures c.in_default.is
 
 pub returns : goal.returns
 returns c =

@@ -1,31 +1,34 @@
--- The loop's invariant: what the elements left come to is what all come to. The measure is the turns that are left. Assumes nothing.
-use mathlib.Core.Path.{refl, sym, ap, ◌∙◌}
-use Prim.Native.Nat.{◌-◌}
-use Rattle.rule.proofs.TopicLaws.{good_topic, topics_end, topics_none, topics_next}
-use Rattle.rule.specs.Places.{is_topic, are_topics, topics_from}
+-- The loop's invariant: what the turns that are left tell is what all of them tell. Assumes nothing.
+use Rattle.std.specs.Prelude.{ℕ, ◌+◌, ◌-◌, is_some, not}
+use native.Mathlib.Omega.{arith}
+use mathlib.Core.Path.{◌≡◌, sym, ap, ◌∙◌}
+use lib.ListN.{length}
+use Rattle.rule.proofs.TopicLaws.{topics_end, topics_none, topics_next}
+use Rattle.rule.specs.Places.{are_topics, topics_from}
 use Rattle.rule.proofs.topic_list.are_topics.Goals as goal
 
-pub loop-turns-init : goal.loop-turns-init
+pub loop-init : goal.loop-init
 unfolding are_topics
-loop-turns-init c =
-    refl
+loop-init c =
+    let whole : length c.args.line.now - 0 ≡ length c.args.line.now = omega arith in ap (λ (n : ℕ). topics_from n c.args.line.now c.args.first) whole
 
-pub returns-in-Nowhere : goal.returns-in-Nowhere
-returns-in-Nowhere c =
-    sym (topics_end c.loop-turns.turns c.args.line.now) ∙ (ap (topics_from c.loop-turns.turns c.args.line.now) (sym c.in-Nowhere.is) ∙ c.loop-turns.invariant)
+pub returns-in_default : goal.returns-in_default
+returns-in_default c =
+    sym (topics_end (length c.args.line.now - c.loop.counter) c.args.line.now)
+    ∙ (ap (topics_from (length c.args.line.now - c.loop.counter) c.args.line.now) (sym c.in_default.is) ∙ c.loop.invariant)
 
-pub returns-in-Bad : goal.returns-in-Bad
-unfolding is_topic
-returns-in-Bad c =
-    sym (topics_next c.loop-turns.turns c.args.line.now _ c.loop-turns-test.true (ap is_topic (sym c.topic_at.ensures) ∙ ap is_topic c.in-Bad.is))
-    ∙ (ap (topics_from c.loop-turns.turns c.args.line.now) (sym c.in-At.is) ∙ c.loop-turns.invariant)
+pub returns-then-is_none : goal.returns-then-is_none
+returns-then-is_none c =
+    sym (topics_next (length c.args.line.now - c.loop.counter) c.args.line.now _ (omega arith) (ap is_some (sym c.topic_at.ensures) ∙ (c.is_none.ensures ∙ ap not c.if-is_none.true)))
+    ∙ (ap (topics_from (length c.args.line.now - c.loop.counter) c.args.line.now) (sym c.in-Some.is) ∙ c.loop.invariant)
 
-pub loop-turns-preserved : goal.loop-turns-preserved
-loop-turns-preserved c =
-    ap (topics_from (c.loop-turns.turns - 1) c.args.line.now) c.next_item-next.ensures
-    ∙ (sym (topics_next c.loop-turns.turns c.args.line.now _ c.loop-turns-test.true (ap is_topic (sym c.topic_at.ensures) ∙ good_topic c.topic_at.result c.in_default.not-Bad))
-    ∙ (ap (topics_from c.loop-turns.turns c.args.line.now) (sym c.in-At.is) ∙ c.loop-turns.invariant))
+pub loop-preserved : goal.loop-preserved
+loop-preserved c =
+    let turns : length c.args.line.now - (c.loop.counter + 1) ≡ (length c.args.line.now - c.loop.counter) - 1 = omega arith in
+    ap (λ (n : ℕ). topics_from n c.args.line.now c.next_item-next.result) turns
+    ∙ (ap (topics_from ((length c.args.line.now - c.loop.counter) - 1) c.args.line.now) c.next_item-next.ensures
+    ∙ (sym (topics_next (length c.args.line.now - c.loop.counter) c.args.line.now _ (omega arith) (ap is_some (sym c.topic_at.ensures) ∙ (c.is_none.ensures ∙ ap not c.if-is_none.false)))
+    ∙ (ap (topics_from (length c.args.line.now - c.loop.counter) c.args.line.now) (sym c.in-Some.is) ∙ c.loop.invariant)))
 
 pub returns : goal.returns
-returns c =
-    sym (topics_none c.loop-turns.turns c.args.line.now c.loop-turns.next c.loop-turns-test.false) ∙ c.loop-turns.invariant
+returns c = sym (topics_none (length c.args.line.now - c.loop.counter) c.args.line.now c.loop.next (omega arith)) ∙ c.loop.invariant

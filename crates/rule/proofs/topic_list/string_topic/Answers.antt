@@ -1,76 +1,35 @@
--- A plain string is tested as it stands, another one decoded. Assumes nothing.
-use native.Mathlib.Omega.{arith}
-use mathlib.Core.Path.{refl, sym, ◌∙◌}
-use Rattle.json_text.proofs.PlainLaws.{Plain, plain_string}
-use Rattle.rule.proofs.TopicLaws.{plain-told, plain_string_over, string_by}
+-- A plain string is its own text; another is decoded, where it fits. Assumes nothing.
+use mathlib.Core.Path.{sym, ◌∙◌}
+use lib.ListN.{replicate}
+use lib.Seq.{length-take-le}
+use Rattle.json_text.specs.Strings.{string_at}
+use Rattle.json_text.proofs.PlainLaws.{plain_string}
+use Rattle.rule.proofs.DecodeLaws.{decoded_length, ok_told}
+use Rattle.rule.proofs.TopicLaws.{string_plain, string_decoded, string_unfit}
 use Rattle.rule.proofs.topic_list.string_topic.Goals as goal
 
-pub overflow_add-at : goal.overflow_add-at
-overflow_add-at c =
-    let found : Plain c.args.line.now c.args.at c.in-At.end = plain_string c.args.line.now c.args.at (sym c.plain_text.ensures ∙ c.in-At.is) in
-    let p = found in omega arith
+pub returns-in-Some : goal.returns-in-Some
+returns-in-Some c =
+    c.text_topic.ensures
+    ∙ sym (string_plain c.args.eq c.args.line.now c.args.at (plain_string c.args.line.now c.args.at (sym c.plain_text.ensures ∙ c.in-Some.is)))
 
-pub overflow_sub-end : goal.overflow_sub-end
-overflow_sub-end c =
-    let found : Plain c.args.line.now c.args.at c.in-At.end = plain_string c.args.line.now c.args.at (sym c.plain_text.ensures ∙ c.in-At.is) in
-    let p = found in omega arith
+pub returns-in_err-n : goal.returns-in_err-n
+returns-in_err-n c =
+    c.from_residual.ensures ∙ sym (string_unfit c.args.eq c.args.line.now c.args.at c.decode.ensures.value (sym c.ok.ensures.value ∙ c.in_err-n.was))
 
-pub returns-then-end-at-gt-TEXT : goal.returns-then-end-at-gt-TEXT
-returns-then-end-at-gt-TEXT c =
-    let found : Plain c.args.line.now c.args.at c.in-At.end = plain_string c.args.line.now c.args.at (sym c.plain_text.ensures ∙ c.in-At.is) in
-    sym (plain_string_over c.args.line.now c.args.at (found) c.if-end-at-gt-TEXT.true)
+pub slice_bounds-text-end : goal.slice_bounds-text-end
+slice_bounds-text-end c =
+    let o = string_at c.args.line.now c.args.at in
+    (decoded_length (replicate 256 0) o c.decode.ensures.value c.decode.ensures.buffer_after (ok_told (sym c.ok.ensures.value ∙ c.in_ok-n.was))).room
 
-pub overflow_add-at-2 : goal.overflow_add-at-2
-overflow_add-at-2 c =
-    let found : Plain c.args.line.now c.args.at c.in-At.end = plain_string c.args.line.now c.args.at (sym c.plain_text.ensures ∙ c.in-At.is) in
-    let p = found in omega arith
-
-pub slice_bounds-is_template-count : goal.slice_bounds-is_template-count
-slice_bounds-is_template-count c =
-    let found : Plain c.args.line.now c.args.at c.in-At.end = plain_string c.args.line.now c.args.at (sym c.plain_text.ensures ∙ c.in-At.is) in
-    let p = found in omega arith
-
-pub slice_bounds-is_template-start : goal.slice_bounds-is_template-start
-slice_bounds-is_template-start c =
-    let found : Plain c.args.line.now c.args.at c.in-At.end = plain_string c.args.line.now c.args.at (sym c.plain_text.ensures ∙ c.in-At.is) in
-    let p = found in omega arith
-
-pub slice_bounds-is_template-end : goal.slice_bounds-is_template-end
-slice_bounds-is_template-end c =
-    let found : Plain c.args.line.now c.args.at c.in-At.end = plain_string c.args.line.now c.args.at (sym c.plain_text.ensures ∙ c.in-At.is) in
-    let p = found in omega arith
-
-pub returns-then-is_template : goal.returns-then-is_template
-returns-then-is_template c =
-    let found : Plain c.args.line.now c.args.at c.in-At.end = plain_string c.args.line.now c.args.at (sym c.plain_text.ensures ∙ c.in-At.is) in
-    sym (string_by c.args.line.now c.args.at (plain-told c.args.line.now c.args.at (found) c.if-end-at-gt-TEXT.false) (sym c.is_template.ensures ∙ c.if-is_template.true) refl)
-
-pub overflow_add-at-3 : goal.overflow_add-at-3
-overflow_add-at-3 c =
-    let found : Plain c.args.line.now c.args.at c.in-At.end = plain_string c.args.line.now c.args.at (sym c.plain_text.ensures ∙ c.in-At.is) in
-    let p = found in omega arith
-
-pub slice_bounds-valid_filter-count : goal.slice_bounds-valid_filter-count
-slice_bounds-valid_filter-count c =
-    let found : Plain c.args.line.now c.args.at c.in-At.end = plain_string c.args.line.now c.args.at (sym c.plain_text.ensures ∙ c.in-At.is) in
-    let p = found in omega arith
-
-pub slice_bounds-valid_filter-start : goal.slice_bounds-valid_filter-start
-slice_bounds-valid_filter-start c =
-    let found : Plain c.args.line.now c.args.at c.in-At.end = plain_string c.args.line.now c.args.at (sym c.plain_text.ensures ∙ c.in-At.is) in
-    let p = found in omega arith
-
-pub slice_bounds-valid_filter-end : goal.slice_bounds-valid_filter-end
-slice_bounds-valid_filter-end c =
-    let found : Plain c.args.line.now c.args.at c.in-At.end = plain_string c.args.line.now c.args.at (sym c.plain_text.ensures ∙ c.in-At.is) in
-    let p = found in omega arith
-
-pub returns-then-valid_filter : goal.returns-then-valid_filter
-returns-then-valid_filter c =
-    let found : Plain c.args.line.now c.args.at c.in-At.end = plain_string c.args.line.now c.args.at (sym c.plain_text.ensures ∙ c.in-At.is) in
-    sym (string_by c.args.line.now c.args.at (plain-told c.args.line.now c.args.at (found) c.if-end-at-gt-TEXT.false) (sym c.is_template.ensures ∙ c.if-is_template.false) (sym c.valid_filter.ensures ∙ c.if-valid_filter.true))
+pub slice_bounds-text_topic-end-2 : goal.slice_bounds-text_topic-end-2
+slice_bounds-text_topic-end-2 c =
+    let o = string_at c.args.line.now c.args.at in
+    sym (length-take-le c.in_ok-n.n _ (decoded_length (replicate 256 0) o c.decode.ensures.value c.decode.ensures.buffer_after (ok_told (sym c.ok.ensures.value ∙ c.in_ok-n.was))).room)
 
 pub returns : goal.returns
 returns c =
-    let found : Plain c.args.line.now c.args.at c.in-At.end = plain_string c.args.line.now c.args.at (sym c.plain_text.ensures ∙ c.in-At.is) in
-    sym (string_by c.args.line.now c.args.at (plain-told c.args.line.now c.args.at (found) c.if-end-at-gt-TEXT.false) (sym c.is_template.ensures ∙ c.if-is_template.false) (sym c.valid_filter.ensures ∙ c.if-valid_filter.false))
+    c.text_topic-2.ensures
+    ∙ sym
+    (string_decoded c.args.eq c.args.line.now c.args.at (replicate 256 0) c.decode.ensures.value c.decode.ensures.buffer_after
+    (sym c.ok.ensures.value ∙ c.in_ok-n.was))

@@ -1,51 +1,56 @@
--- `store::check::table_fine` meets its contract. The loop's invariant: `at` is where row `i` begins, and a row that is not fine is
--- among those left if and only if one is among the first `used`. The measure is what is left of `used`. Assumes nothing.
-use Prim.Native.Nat.{◌+◌, ◌*◌, ◌≤◌}
-use mathlib.Core.Path.{◌≡◌, refl, sym, ◌∙◌}
-use mathlib.Core.Bool.{true, false}
-use native.Mathlib.Nat.{sub-zero, mul-le-mul_right, add-sub_cancel_left}
-use native.Mathlib.Omega.{arith}
-use borrow.Author.Rules.{part_to_end}
-use lib.ListN.{drop}
-use Rattle.table.specs.Bytes.{zeros, rows}
-use Rattle.store.proofs.RowLaws.{some_bad, bad_here, bad_past, bad_end, table_short, table_bad, table_tests}
+-- `store::check::table_fine` meets its contract, which has its tests in the same order: its chunks are the rows. Assumes nothing.
+use mathlib.Core.Path.{◌≡◌, refl, sym, ap, ◌∙◌}
+use mathlib.Core.Bool.{true, false, true≢false}
+use borrow.Author.Rules.{rules, part_to_end}
+use borrow.Author.Tests.{tests}
+use lib.ListN.{length}
+use Rattle.std.specs.List.{list_all}
+use Rattle.std.specs.Slice.Iter.{chunks_exact_rest, chunks_exact_size}
+use Rattle.std.proofs.lemmas.Iterator.{YieldsList-from_take}
+use Rattle.std.proofs.lemmas.Iterator.Search.{all_from_yields_List}
+use Rattle.table.specs.Bytes.{rows}
+use Rattle.table.proofs.ChunkLaws.{YieldsList-from_rows, take-rows, rows_bound}
+use Rattle.store.proofs.RowLaws.{room_for, no_room, table_short, table_by}
+use Rattle.store.proofs.check.table_fine.Goals.{then-all, else-all}
 use Rattle.store.proofs.check.table_fine.Goals as goal
 
-pub loop-i-init : goal.loop-i-init
-loop-i-init c =
-    (omega arith, (omega arith, (omega arith, rw sub-zero)))
+pub returns-then-part-SIZE : goal.returns-then-part-SIZE
+returns-then-part-SIZE g c =
+    table_short g.R.RowKind.SIZE (g.R.RowKind.fine c.args.bound) c.args.used c.args.part.now
+    (no_room g.R.RowKind.SIZE c.args.used (length c.args.part.now) g.met.R.RowKind.some (rw c.SIZE.ensures at c.if-part-SIZE.true))
 
-pub returns-then-part-at : goal.returns-then-part-at
-returns-then-part-at c =
-    let more : c.loop-i.i + 1 ≤ c.args.used = omega arith in
-    table_short c.args.owned c.args.bound c.args.used c.args.part.now c.row_size-size.ensures (omega (arith, mul-le-mul_right c.row_size-size.result more))
+pub returns-then-all_zero : goal.returns-then-all_zero
+returns-then-all_zero g c =
+    let part = c.args.part.now in
+    let size = g.R.RowKind.SIZE in
+    let fine = g.R.RowKind.fine c.args.bound in
+    let some = rows_bound size part g.met.R.RowKind.some in
+    let of_rows = YieldsList-from_rows size (length part) part (ap chunks_exact_rest c.take.ensures.source ∙ c.chunks_exact.ensures.rest) (ap chunks_exact_size c.take.ensures.source ∙ c.chunks_exact.ensures.size ∙ c.SIZE-2.ensures) some in
+    let told : c.all.result ≡ list_all fine (rows size c.args.used part) =
+    all_from_yields_List fine _ _ c.all.result c.all.ensures.ran (YieldsList-from_take c.args.used of_rows c.take.ensures.count) (λ x b q k. search (rules, tests))
+    ∙ ap (list_all fine) (take-rows size c.args.used (length part) part some) in
+    let whole = room_for size c.args.used (length part) g.met.R.RowKind.some (rw c.SIZE.ensures at c.if-part-SIZE.false) in
+    elim c.if-all.branch [
+      | then-all w ↦
+          let zero = rw (part_to_end, w.SIZE-then-all.ensures) at (sym c.if-all_zero.true ∙ w.value-is ∙ w.all_zero.ensures) in
+          table_by size fine c.args.used part {fines = true} {zero = true} whole (sym w.if-all.true ∙ told) zero (rw c.SIZE-then-all_zero.ensures at c.distinct.ensures)
+      | else-all w ↦ absurd (true≢false (sym c.if-all_zero.true ∙ w.value-is ∙ w.if-all.false))
+    ]
 
-pub returns-then-not-row_fine : goal.returns-then-not-row_fine
-returns-then-not-row_fine c =
-    let told = rw add-sub_cancel_left at c.row_fine.ensures in
-    let bad = bad_here c.args.owned c.args.bound c.row_size-size.result c.args.used c.loop-i.i c.loop-i.at c.args.part.now c.loop-i-test.true (omega arith) in
-    table_bad c.args.owned c.args.bound c.args.used c.args.part.now c.row_size-size.ensures (c.loop-i.invariant.1.1.1 ∙ bad (sym told ∙ c.if-not-row_fine.true))
-
-pub loop-i-preserved : goal.loop-i-preserved
-loop-i-preserved c =
-    let told = rw add-sub_cancel_left at c.row_fine.ensures in
-    let past = bad_past c.args.owned c.args.bound c.row_size-size.result c.args.used c.loop-i.i c.loop-i.at c.args.part.now c.loop-i-test.true (omega arith) in
-    (omega arith, (omega arith, (omega arith, c.loop-i.invariant.1.1.1 ∙ past (sym told ∙ c.if-not-row_fine.false))))
-
-pub returns-then-not-all_zero : goal.returns-then-not-all_zero
-returns-then-not-all_zero c =
-    let ended : (c.loop-i.at ≡ c.args.used * c.row_size-size.result) × (some_bad c.args.owned c.args.bound (rows c.row_size-size.result c.args.used c.args.part.now) ≡ false) = let all : c.loop-i.i ≡ c.args.used = omega arith in
-    (rw all at c.loop-i.invariant.1.0, c.loop-i.invariant.1.1.1 ∙ bad_end c.args.owned c.args.bound _ c.args.used c.loop-i.i _ c.loop-i-test.false) in
-    let padding : c.all_zero.result ≡ zeros (drop (c.args.used * c.row_size-size.result) c.args.part.now) = rw (part_to_end, ended.0) at c.all_zero.ensures in
-    let end = ended in
-    let zero = sym c.if-not-all_zero.true ∙ padding in
-    table_tests c.args.owned c.args.bound c.args.used c.args.part.now c.row_size-size.ensures {zero = false} (omega arith) end.1 zero refl
-
-pub returns : goal.returns
-returns c =
-    let ended : (c.loop-i.at ≡ c.args.used * c.row_size-size.result) × (some_bad c.args.owned c.args.bound (rows c.row_size-size.result c.args.used c.args.part.now) ≡ false) = let all : c.loop-i.i ≡ c.args.used = omega arith in
-    (rw all at c.loop-i.invariant.1.0, c.loop-i.invariant.1.1.1 ∙ bad_end c.args.owned c.args.bound _ c.args.used c.loop-i.i _ c.loop-i-test.false) in
-    let padding : c.all_zero.result ≡ zeros (drop (c.args.used * c.row_size-size.result) c.args.part.now) = rw (part_to_end, ended.0) at c.all_zero.ensures in
-    let end = ended in
-    let zero = sym c.if-not-all_zero.false ∙ padding in
-    table_tests c.args.owned c.args.bound c.args.used c.args.part.now c.row_size-size.ensures {zero = true} (omega arith) end.1 zero c.distinct.ensures
+pub returns-else-all_zero : goal.returns-else-all_zero
+returns-else-all_zero g c =
+    let part = c.args.part.now in
+    let size = g.R.RowKind.SIZE in
+    let fine = g.R.RowKind.fine c.args.bound in
+    let some = rows_bound size part g.met.R.RowKind.some in
+    let of_rows = YieldsList-from_rows size (length part) part (ap chunks_exact_rest c.take.ensures.source ∙ c.chunks_exact.ensures.rest) (ap chunks_exact_size c.take.ensures.source ∙ c.chunks_exact.ensures.size ∙ c.SIZE-2.ensures) some in
+    let told : c.all.result ≡ list_all fine (rows size c.args.used part) =
+    all_from_yields_List fine _ _ c.all.result c.all.ensures.ran (YieldsList-from_take c.args.used of_rows c.take.ensures.count) (λ x b q k. search (rules, tests))
+    ∙ ap (list_all fine) (take-rows size c.args.used (length part) part some) in
+    let whole = room_for size c.args.used (length part) g.met.R.RowKind.some (rw c.SIZE.ensures at c.if-part-SIZE.false) in
+    c.if-all_zero.false ∙ elim c.if-all.branch [
+      | then-all w ↦
+          let zero = rw (part_to_end, w.SIZE-then-all.ensures) at (sym c.if-all_zero.false ∙ w.value-is ∙ w.all_zero.ensures) in
+          table_by size fine c.args.used part {fines = true} {zero = false} whole (sym w.if-all.true ∙ told) zero refl
+      | else-all w ↦ table_by size fine c.args.used part {fines = false} whole (sym w.if-all.false ∙ told) refl refl
+    ]

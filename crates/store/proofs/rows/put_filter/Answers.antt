@@ -1,4 +1,4 @@
--- `store::rows::put_filter` meets its contract: each write is into the zeros that `clear` left. Assumes nothing.
+-- `store::rows::put_filter` meets its contract: each write is into the zeros that `fill` left. Assumes nothing.
 use native.Mathlib.Omega.{arith}
 use lib.ListN.{take, length-take}
 use Rattle.rule.specs.Limits.{text_limit, id_limit}
@@ -14,4 +14,4 @@ returns-then-row-ne-FILTER c =
 pub returns : goal.returns
 returns c =
     put_filter c.args.rule (take text_limit c.args.text.now) (take id_limit c.args.owner.now) c.args.row.now (omega (arith, length-take text_limit c.args.text.now)) (omega (arith, length-take id_limit c.args.owner.now)) c.if-row-ne-FILTER.false
-    c.clear.ensures c.put_number.ensures c.put_field.ensures c.put_field-2.ensures
+    (c.fill.ensures.after (λ y e. e)) c.put_number.ensures c.put_field.ensures c.put_field-2.ensures

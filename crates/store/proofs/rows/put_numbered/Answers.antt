@@ -1,4 +1,4 @@
--- `store::rows::put_numbered` meets its contract: each write is into the zeros that `clear` left. Assumes nothing.
+-- `store::rows::put_numbered` meets its contract: each write is into the zeros that `fill` left. Assumes nothing.
 use native.Mathlib.Omega.{arith}
 use lib.ListN.{take, length-take}
 use Rattle.rule.specs.Limits.{text_limit}
@@ -14,4 +14,4 @@ returns-then-row-ne-EQ c =
 pub returns : goal.returns
 returns c =
     put_numbered c.args.n (take text_limit c.args.text.now) c.args.row.now (omega (arith, length-take text_limit c.args.text.now)) c.if-row-ne-EQ.false
-    c.clear.ensures c.put_number.ensures c.put_field.ensures
+    (c.fill.ensures.after (λ y e. e)) c.put_number.ensures c.put_field.ensures

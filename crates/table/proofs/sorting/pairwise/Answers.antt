@@ -1,32 +1,26 @@
--- `table::sorting::pairwise` meets its contract. The loop's invariant: `at` is at most the table's length, and the rows left from `at` on are
--- distinct if and only if the first `used` are. The measure is what is left of `used`. Assumes nothing.
-use mathlib.Core.Path.{sym, ◌∙◌}
-use native.Mathlib.Nat.{sub-zero, add-sub_cancel_left}
+-- `table::sorting::pairwise` meets its contract: the first row is compared with all behind it, and then these. Assumes nothing.
+use mathlib.Core.Path.{refl, sym, ◌∙◌}
 use native.Mathlib.Omega.{arith}
-use borrow.Author.Rules.{part_to_end}
-use Rattle.table.proofs.RowLaws.{distinct_twice, distinct_past, distinct_short, distinct_end}
+use Rattle.table.proofs.RowLaws.{distinct_step, distinct_short, distinct_end}
 use Rattle.table.proofs.sorting.pairwise.Goals as goal
 
-pub loop-i-init : goal.loop-i-init
-loop-i-init c =
-    (omega arith, rw sub-zero)
-
-pub returns-then-table-at : goal.returns-then-table-at
-returns-then-table-at c =
-    sym (c.loop-i.invariant.1 ∙ distinct_short c.args.size _ c.loop-i.at c.args.table.now c.if-table-at.true)
+pub returns-in_default : goal.returns-in_default
+returns-in_default c =
+    let short = rw c.in_default.is at c.split_at_checked.ensures.cases in
+    sym (c.loop-i.invariant ∙ distinct_short c.args.size _ c.loop-i.rest.now short)
 
 pub returns-then-present : goal.returns-then-present
 returns-then-present c =
-    let told = rw (part_to_end, add-sub_cancel_left) at c.present.ensures in
-    let twice = distinct_twice c.args.size _ _ c.loop-i.at c.args.table.now c.loop-i-test.true (omega arith) in
-    sym (c.loop-i.invariant.1 ∙ twice (sym told ∙ c.if-present.true))
+    let parts = c.in-Some.ensures.cases in
+    let step = distinct_step c.args.size c.args.used c.loop-i.i c.loop-i.rest.now c.loop-i-test.true parts.0 parts.1 parts.2 in
+    sym (c.loop-i.invariant ∙ step ∙ rw (← c.present.ensures, c.if-present.true) refl)
 
 pub loop-i-preserved : goal.loop-i-preserved
 loop-i-preserved c =
-    let told = rw (part_to_end, add-sub_cancel_left) at c.present.ensures in
-    let past = distinct_past c.args.size _ _ c.loop-i.at c.args.table.now c.loop-i-test.true (omega arith) in
-    (omega arith, c.loop-i.invariant.1 ∙ past (sym told ∙ c.if-present.false))
+    let parts = c.in-Some.ensures.cases in
+    let step = distinct_step c.args.size c.args.used c.loop-i.i c.loop-i.rest.now c.loop-i-test.true parts.0 parts.1 parts.2 in
+    c.loop-i.invariant ∙ step ∙ rw (← c.present.ensures, c.if-present.false) refl
 
 pub returns : goal.returns
 returns c =
-    sym (c.loop-i.invariant.1 ∙ distinct_end _ _ _ _ c.loop-i-test.false)
+    sym (c.loop-i.invariant ∙ distinct_end _ _ _ (omega arith))

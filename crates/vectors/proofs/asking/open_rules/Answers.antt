@@ -12,14 +12,14 @@ returns-in_default c =
 pub slice_bounds-lines-end : goal.slice_bounds-lines-end
 unfolding rule_text
 slice_bounds-lines-end c =
-    rules_room c.args.rules.now c.replace.ensures.value _ c.replace.ensures.buffer_after c.in-Length.is
+    rules_room c.args.rules.now c.replace.ensures.value _ c.replace.ensures.buffer_after c.in-Some.is
 
 pub slice_bounds-mqtt_acl_open-end : goal.slice_bounds-mqtt_acl_open-end
 unfolding rule_text
 slice_bounds-mqtt_acl_open-end c =
-    sym (length-take-le c.in-Length.n _ (rules_room c.args.rules.now c.replace.ensures.value _ c.replace.ensures.buffer_after c.in-Length.is))
+    sym (length-take-le c.in-Some.n _ (rules_room c.args.rules.now c.replace.ensures.value _ c.replace.ensures.buffer_after c.in-Some.is))
 
 pub returns : goal.returns
 unfolding rule_text
 returns c =
-    let whole = rules-opened c.args.rules.now c.replace.ensures.value _ c.replace.ensures.buffer_after c.in-Length.is c.args.store.now c.mqtt_acl_open.ensures.store_after in record { value = whole.0; store_after = whole.1 }
+    let whole = rules-opened c.args.rules.now c.replace.ensures.value _ c.replace.ensures.buffer_after c.in-Some.is c.args.store.now c.mqtt_acl_open.ensures.store_after in record { value = whole.0; store_after = whole.1 }
