@@ -109,12 +109,12 @@ module _ {Row : Type 0} {c : Codec Row} {bad : Row → Bool} (R : Reads c bad) (
   unfolding left
   left_rows = rw (area-rows R room rs good) (keep_put R test rs good)
 
-  left_count : length (left (λ b. test (c.get b)) c.size (length rs) (area c room rs)) ≡ length (keep (λ r. not (test r)) rs)
-  left_count = rw left_rows (length-map (keep (λ r. not (test r)) rs) c.put)
+  pub remove_count : length (left (λ b. test (c.get b)) c.size (length rs) (area c room rs)) ≡ length (keep (λ r. not (test r)) rs)
+  remove_count = rw left_rows (length-map (keep (λ r. not (test r)) rs) c.put)
 
-  closed_up_area : closed_up (λ b. test (c.get b)) c.size (length rs) (area c room rs) ≡ area c room (keep (λ r. not (test r)) rs)
+  pub remove_area : closed_up (λ b. test (c.get b)) c.size (length rs) (area c room rs) ≡ area c room (keep (λ r. not (test r)) rs)
   unfolding closed_up put_all area pad
-  closed_up_area =
+  remove_area =
       let stay = keep (λ r. not (test r)) rs in
       let fewer = mul-le-mul_right c.size (length-keep (λ r. not (test r)) rs) in
       let full = mul-le-mul_right c.size fits in
@@ -122,7 +122,7 @@ module _ {Row : Type 0} {c : Codec Row} {bad : Row → Bool} (R : Reads c bad) (
       mul_comm _ c.size ∙ (mul-sub c.size (length rs) (length stay) ∙ simp mul_comm) in
       let gap : (length rs - length stay) * c.size + (room * c.size - length rs * c.size) ≡ room * c.size - length stay * c.size = omega arith in
       rw (
-        left_count,
+        remove_count,
         left_rows,
         area-rows R room rs good,
         length-map rs c.put,
@@ -138,7 +138,7 @@ module _ {Row : Type 0} {c : Codec Row} {bad : Row → Bool} (R : Reads c bad) (
       → (stay ≡ length (keep (λ r. not (test r)) rs)) × (part ≡ area c room (keep (λ r. not (test r)) rs))
   left_told s at p e r =
       let t = rw (e, p) at r in
-      (t.0 ∙ left_count, t.1 ∙ closed_up_area)
+      (t.0 ∙ remove_count, t.1 ∙ remove_area)
 
 -- ---- what an event answers and does
 
