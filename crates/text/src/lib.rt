@@ -83,11 +83,11 @@ pub fn paste(source: &[u8], buffer: &mut [u8], at: usize) -> bool
     ensures value { result ≡ spec.fits_at at source.now buffer.old }
     ensures buffer_after { buffer.new ≡ spec.pasted at source.now buffer.old }
 {
-    if buffer.len() < at || buffer.len() - at < source.len() {
-        return false;
+    let fits = at <= buffer.len() && source.len() <= buffer.len() - at;
+    if fits {
+        buffer[at..at + source.len()].copy_from_slice(source);
     }
-    buffer[at..at + source.len()].copy_from_slice(source);
-    true
+    fits
 }
 
 // Writes the text with `new` for each occurrence of the pattern to the front of the buffer, which has room for it.
