@@ -4,6 +4,7 @@ ghost use Rattle.json_text.specs.Utf8 as utf;
 ghost use Rattle.json_text.specs.Json as spec;
 ghost use Rattle.json_text.specs.Access as access;
 
+use crate::access::kind_at;
 use crate::strings::scan_string;
 use crate::{Cursor, Kind, Literal, Read, Separator};
 
@@ -102,7 +103,7 @@ pub fn number(c: Cursor, line: &[u8]) -> Option<Cursor>
     let read = number_at(line, c.at)?;
     Some(Cursor {
         at: read.next,
-        longest: c.longest,
+        ..c
     })
 }
 
@@ -131,7 +132,7 @@ pub fn word(c: Cursor, line: &[u8]) -> Option<Cursor>
     let word = literal_at(line, c.at)?;
     Some(Cursor {
         at: c.at + word_size(word),
-        longest: c.longest,
+        ..c
     })
 }
 
@@ -144,7 +145,7 @@ pub fn name(c: Cursor, line: &[u8]) -> Option<Cursor>
     if is_at(line, p, b':') {
         return Some(Cursor {
             at: skip_blanks(line, p + 1),
-            longest: behind.longest,
+            ..behind
         });
     }
     None
@@ -155,28 +156,19 @@ pub fn name(c: Cursor, line: &[u8]) -> Option<Cursor>
 pub fn value(c: Cursor, line: &[u8], depth: usize) -> Option<Cursor>
     ensures { result ≡ access.stepped spec.longest c.longest (spec.value_at depth line.now c.at) }
 {
-    let at = c.at;
-    if line.len() <= at {
-        return None;
-    }
-    match kind_of(line[at]) {
+    match kind_at(line, c.at) {
         Kind::Number => number(c, line),
         Kind::Text => string(c, line),
         Kind::Array => {
-            if depth == 0 {
-                return None;
-            }
-            bracket(c, line, depth - 1, false)
+            let inside = depth.checked_sub(1)?;
+            bracket(c, line, inside, false)
         }
         Kind::Object => {
-            if depth == 0 {
-                return None;
-            }
-            bracket(c, line, depth - 1, true)
+            let inside = depth.checked_sub(1)?;
+            bracket(c, line, inside, true)
         }
         Kind::Word => word(c, line),
-        Kind::Blank => None,
-        Kind::Other => None,
+        Kind::Blank | Kind::Other => None,
     }
 }
 
@@ -206,22 +198,17 @@ fn closing(object: bool) -> u8
 pub fn bracket(c: Cursor, line: &[u8], depth: usize, object: bool) -> Option<Cursor>
     ensures { result ≡ access.stepped spec.longest c.longest (access.bracketed object (spec.value_at depth line.now) line.now c.at) }
 {
-    let at = c.at;
-    if line.len() <= at {
+    if line.len() <= c.at {
         return None;
     }
-    let first = skip_blanks(line, at + 1);
-    let inside = Cursor {
-        at: first,
-        longest: c.longest,
-    };
+    let first = skip_blanks(line, c.at + 1);
     if is_at(line, first, closing(object)) {
         return Some(Cursor {
             at: first + 1,
-            longest: c.longest,
+            ..c
         });
     }
-    items(inside, line, depth, object)
+    items(Cursor { at: first, ..c }, line, depth, object)
 }
 
 // The items from the cursor on, with commas between them, up to and with the closing bracket.
@@ -232,13 +219,12 @@ pub fn items(c: Cursor, line: &[u8], depth: usize, object: bool) -> Option<Curso
     let mut cursor = c;
     while cursor.at < line.len() {
         let behind = item(cursor, line, depth, object)?;
-        let longest = behind.longest;
         match separator(line, behind.at, closing(object))? {
             Separator::Close(at) => {
-                return Some(Cursor { at, longest });
+                return Some(Cursor { at, ..behind });
             }
             Separator::Comma(at) => {
-                cursor = Cursor { at, longest };
+                cursor = Cursor { at, ..behind };
             }
         }
     }
