@@ -111,7 +111,7 @@ pub fn member_value(line: &[u8], at: usize) -> Option<usize>
     Some(behind.at)
 }
 
-// The number of elements of the array at this place.
+// The number of elements of the array at this place. Not by `Elements`, which just ends before an element that can't be read.
 pub fn count_elements(line: &[u8], at: usize) -> Option<u64>
     ensures { result ≡ spec.element_count line.now at }
 {
@@ -139,7 +139,7 @@ pub fn count_elements(line: &[u8], at: usize) -> Option<u64>
     None
 }
 
-// The value of the last member with this name of the object at this place.
+// The value of the last member with this name of the object at this place, if all of it can be read: so a loop, and no search.
 pub fn member(line: &[u8], at: usize, wanted: &[u8]) -> Option<usize>
     ensures { result ≡ spec.member_named wanted.now line.now at }
 {

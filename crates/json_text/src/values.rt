@@ -186,7 +186,8 @@ pub fn separator(line: &[u8], at: usize, close: u8) -> Option<Separator>
     None
 }
 
-// The closing bracket of an object or an array.
+// The closing bracket of an object or an array. Both are read by the same functions, and `object` says which it is: two of each would
+// differ in the bracket, and in that a member's name is passed over before its value.
 fn closing(object: bool) -> u8
     ensures { result ≡ access.closing object }
 {

@@ -79,7 +79,7 @@ pub fn number_at(line: &[u8], at: Option<usize>) -> Option<u64>
     number_value(line, at?)
 }
 
-// The name, and under allow its password and flag.
+// The name, and under allow its password and flag: `allow` is what the rule's line says, no switch of the caller's.
 #[tactic(auto, unfolding(crate::specs::Members::user_listed, crate::specs::Members::user_from, crate::specs::Members::with_password, crate::specs::Rule::flag))]
 fn user_at(line: &[u8], places: MemberPlaces, allow: bool) -> Option<Option<User>>
     ensures { result ≡ members.user_listed allow line.now places }

@@ -24,7 +24,7 @@ fn has_mark(text: &[u8]) -> bool
     text::contains(text, b"%u") || text::contains(text, b"%c")
 }
 
-// The topic that a text at this place is: a template, or a valid filter; under `eq` it may be any text.
+// The topic that a text at this place is: a template, or a valid filter; under `eq` it may be any text. `eq` is what the line says.
 #[tactic(auto, unfolding(crate::specs::Places::text_topic, crate::specs::Places::placed_topic))]
 fn text_topic(text: &[u8], at: usize, eq: bool) -> Option<Topic>
     ensures { result ≡ spec.text_topic eq at text.now }
