@@ -6,7 +6,7 @@ use Rattle.rule.proofs.topic_list.topics_at.Goals as goal
 
 pub returns-in-Array : goal.returns-in-Array
 returns-in-Array c =
-    c.are_topics.ensures ∙ (ap (are_topics c.args.line.now) c.first_element.ensures ∙ topics_array c.args.line.now c.args.at (sym c.kind_at.ensures ∙ c.in-Array.is))
+    c.are_topics.ensures ∙ (topics_array c.args.line.now c.args.at (sym c.kind_at.ensures ∙ c.in-Array.is))
 
 pub returns-in_default : goal.returns-in_default
 returns-in_default c =
