@@ -193,7 +193,7 @@ pub fn string_is(line: &[u8], at: usize, wanted: &[u8]) -> bool
     decoded_is(line, at, wanted)
 }
 
-// The same, piece by piece.
+// The same, piece by piece; each piece may decide it, so that the loop answers from inside.
 fn decoded_is(line: &[u8], at: usize, wanted: &[u8]) -> bool
     ensures { result ≡ access.string_is line.now at wanted.now }
 {

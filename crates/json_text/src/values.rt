@@ -57,7 +57,7 @@ fn is_digit(b: u8) -> bool
     matches!(b, b'0'..=b'9')
 }
 
-// The number whose first digit stands at `at`.
+// The number whose first digit stands at `at`: a loop, which ends at what is no digit, or with nothing where the number gets too large.
 pub fn number_at(line: &[u8], at: usize) -> Option<Read<u64>>
     ensures { result ≡ spec.number_at line.now at }
 {

@@ -37,8 +37,7 @@ fn is_text(line: &[u8], at: usize) -> bool
 fn text_at(line: &[u8], at: Option<usize>) -> Option<usize>
     ensures { result ≡ members.text_from line.now at }
 {
-    let p = at?;
-    if is_text(line, p) { Some(p) } else { None }
+    at.filter(|&p| is_text(line, p))
 }
 
 // The string that the last member with this name has, of the object at this place.

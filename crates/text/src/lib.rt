@@ -45,7 +45,8 @@ pub fn contains(text: &[u8], pattern: &[u8]) -> bool
     pattern.is_empty() || place(text, pattern).is_some()
 }
 
-// The next piece of a replacement, and what is left of the text: `new` for an occurrence, else the bytes before the next.
+// The next piece of a replacement, and what is left of the text: `new` for an occurrence, else the bytes before the next. It is called in
+// loops until nothing is left: for an iterator over the pieces their list would have to be defined, and tied to what `replace` promises.
 #[tactic(auto, using(crate::proofs::Laws::first_here, crate::proofs::Laws::replace_kept))]
 fn piece<'a>(text: &'a [u8], pattern: &[u8], new: &'a [u8]) -> (&'a [u8], &'a [u8])
     requires { 0 < length text.now }
