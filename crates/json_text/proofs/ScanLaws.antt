@@ -6,7 +6,8 @@ use mathlib.Core.Path.{◌≡◌, refl, sym, ap, ◌∙◌}
 use mathlib.Core.Logic.{◌⊎◌, inl, inr}
 use mathlib.Core.Bool.{Bool, true, false, cond, true≢false}
 use mathlib.Core.List.{List, [], ◌∷◌}
-use Rattle.std.specs.Prelude.{Option, None, Some}
+use Rattle.std.specs.Bool.{then_some}
+use Rattle.std.specs.Prelude.{Option, None, Some, not}
 use Rattle.text.specs.Maybe.{bind}
 use Rattle.std.proofs.lemmas.Option.{none-some}
 use lib.Dec.{eqb}
@@ -291,3 +292,12 @@ close_next line at close {next} small q = by (is_at line p close) (is_at line p 
         omega (arith, blanks_from line at)
     by false true e q = let z : ◌≡◌ {A = ℕ} 0 1 = cc in absurd (omega arith)
     by false false e q = let z : ◌≡◌ {A = ℕ} 0 1 = cc in absurd (omega arith)
+
+-- what a test answers
+pub told_if : {A : Type 0} (test : Bool) (a : A) → then_some test a ≡ cond test (Some a) None
+told_if true a = refl
+told_if false a = refl
+
+pub told_unless : {A : Type 0} (test : Bool) (a : A) → then_some (not test) a ≡ cond test None (Some a)
+told_unless true a = refl
+told_unless false a = refl

@@ -38,10 +38,7 @@ fn first_item(line: &[u8], at: usize, opens: u8, closes: u8) -> Option<usize>
         return None;
     }
     let p = skip_blanks(line, at + 1);
-    if is_at(line, p, closes) {
-        return None;
-    }
-    Some(p)
+    (!is_at(line, p, closes)).then_some(p)
 }
 
 // The first element of the array at this place.
@@ -190,10 +187,7 @@ pub fn plain_text(line: &[u8], at: usize) -> Option<usize>
         return None;
     }
     let end = plain_end(line, at + 1);
-    if is_at(line, end, b'"') {
-        return Some(end);
-    }
-    None
+    is_at(line, end, b'"').then_some(end)
 }
 
 // The length of the string at this place, decoded.

@@ -250,10 +250,7 @@ pub fn check(line: &[u8]) -> Option<usize>
         longest: 0,
     };
     let behind = value(first, line, DEPTH)?;
-    if skip_blanks(line, behind.at) == line.len() {
-        return Some(behind.longest);
-    }
-    None
+    (skip_blanks(line, behind.at) == line.len()).then_some(behind.longest)
 }
 
 // Is the line a document?

@@ -43,11 +43,7 @@ fn text_topic(text: &[u8], at: usize, eq: bool) -> Option<Topic>
     if eq {
         return Some(Topic::Eq(at));
     }
-    if topic::valid_filter(text) {
-        Some(Topic::Filter(at))
-    } else {
-        None
-    }
+    topic::valid_filter(text).then_some(Topic::Filter(at))
 }
 
 // The topic that the string at this place is. A plain one is tested as it stands.
