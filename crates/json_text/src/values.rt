@@ -101,10 +101,7 @@ pub fn number(c: Cursor, line: &[u8]) -> Option<Cursor>
     ensures { result ≡ access.stepped access.no_string c.longest (spec.number_at line.now c.at) }
 {
     let read = number_at(line, c.at)?;
-    Some(Cursor {
-        at: read.next,
-        ..c
-    })
+    Some(Cursor { at: read.next, ..c })
 }
 
 pub fn string(c: Cursor, line: &[u8]) -> Option<Cursor>
@@ -204,10 +201,7 @@ pub fn bracket(c: Cursor, line: &[u8], depth: usize, object: bool) -> Option<Cur
     }
     let first = skip_blanks(line, c.at + 1);
     if is_at(line, first, closing(object)) {
-        return Some(Cursor {
-            at: first + 1,
-            ..c
-        });
+        return Some(Cursor { at: first + 1, ..c });
     }
     items(Cursor { at: first, ..c }, line, depth, object)
 }

@@ -1,7 +1,7 @@
 -- Laws of the words of `specs/Rule.antt` and `specs/Places.antt`. Assumes nothing.
 use Prim.Native.Nat.{ℕ, ◌≤◌, ◌<◌}
 use mathlib.Core.Path.{◌≡◌, refl, sym, ap, ◌∙◌}
-use mathlib.Core.Bool.{Bool, true, false, ◌&&◌, cond}
+use mathlib.Core.Bool.{Bool, false, ◌&&◌, cond}
 use mathlib.Core.List.{List, [], ◌∷◌, map}
 use Rattle.std.specs.List.{list_all, zip}
 use Rattle.std.specs.Prelude.{None, Some, option_and_then}

@@ -23,7 +23,11 @@ fn lower(b: u8) -> u8
 pub fn is_word(text: &[u8], word: &[u8]) -> bool
     ensures { result ≡ rule.is_word word.now text.now }
 {
-    text.len() == word.len() && text.iter().zip(word).all(|(&b, &letter)| lower(b) == letter)
+    text.len() == word.len()
+        && text
+            .iter()
+            .zip(word)
+            .all(|(&b, &letter)| lower(b) == letter)
 }
 
 // The word that the text is.

@@ -5,7 +5,6 @@ use native.Mathlib.Nat.{add-sub_cancel_left}
 use native.Mathlib.Omega.{arith}
 use borrow.Author.Rules.{part_to_end}
 use lib.ListN.{length, take}
-use Rattle.std.specs.Int.{div_ceil}
 use Rattle.std.proofs.lemmas.Grind.{div_ceil_times}
 use Rattle.table.specs.Bytes.{zeros}
 use Rattle.table.proofs.ByteLaws.{zeros_split, zeros_stretch, zeros_overlap}

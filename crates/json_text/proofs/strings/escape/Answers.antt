@@ -3,7 +3,7 @@ use native.Mathlib.Omega.{arith}
 use mathlib.Core.Path.{refl, sym, ap, ◌∙◌}
 use lib.ListN.{drop_of_length-le}
 use borrow.Author.Tests.{eq-eqb, ne_eqb}
-use Rattle.json_text.specs.Strings.{escape, short_escape}
+use Rattle.json_text.specs.Strings.{escape}
 use Rattle.json_text.proofs.PieceLaws.{escape_by, escape_nothing}
 use Rattle.json_text.proofs.strings.escape.Goals as goal
 

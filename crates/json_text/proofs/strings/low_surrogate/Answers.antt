@@ -1,8 +1,6 @@
 -- Each return has the tests of `low_surrogate` that led there. Assumes nothing.
 use native.Mathlib.Omega.{arith}
 use mathlib.Core.Path.{sym, ap, ◌∙◌}
-use lib.ListN.{drop, length-drop}
-use lib.Seq.{drop-drop}
 use borrow.Author.Rules.{part_to_end}
 use Rattle.text.specs.Maybe.{bind}
 use Rattle.json_text.specs.Strings.{hex4}

@@ -2,7 +2,6 @@
 use native.Mathlib.Omega.{arith}
 use mathlib.Core.Path.{refl, sym, ap, ◌∙◌}
 use borrow.Author.Rules.{part_to_end}
-use lib.Seq.{drop-drop}
 use mathlib.Core.Logic.{⊎_elim}
 use Rattle.std.specs.Prelude.{ℕ, Some}
 use Rattle.text.specs.Maybe.{bind}

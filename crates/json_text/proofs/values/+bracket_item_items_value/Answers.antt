@@ -3,10 +3,10 @@ use Rattle.std.specs.Prelude.{Some}
 use mathlib.Core.Path.{◌≡◌}
 use mathlib.Core.Logic.{⊎_elim}
 use Rattle.std.proofs.Common.{ℕ, ◌+◌, sym, ap, ◌∙◌, refl, arith}
-use Rattle.json_text.specs.Json.{kind_of, value_at, separator_at, is_at, longest}
+use Rattle.json_text.specs.Json.{value_at, separator_at, is_at, longest}
 use Rattle.json_text.specs.Access.{stepped, kind_at}
-use Rattle.json_text.proofs.ScanLaws.{byte_here, comma_next}
-use Rattle.json_text.proofs.ValueLaws.{step_behind, step_on, value_past, inner_none, inner_some, step_opened, step_as, value_step, step_from, itemized_all, itemized_past, itemized_step, item_next, closing_within, bracket_step, bracket_past, value_on, member_step, element_step}
+use Rattle.json_text.proofs.ScanLaws.{comma_next}
+use Rattle.json_text.proofs.ValueLaws.{step_behind, step_on, inner_none, inner_some, step_opened, step_as, value_step, step_from, itemized_all, itemized_past, itemized_step, item_next, closing_within, bracket_step, bracket_past, value_on, member_step, element_step}
 use Rattle.json_text.specs.declared.Cursor.{Cursor}
 use Rattle.json_text.proofs.values.+bracket_item_items_value.Goals as goal
 use Rattle.json_text.proofs.values.+bracket_item_items_value.Goals.{item-then-object+in_ok-start, item-else-object}

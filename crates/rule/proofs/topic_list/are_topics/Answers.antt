@@ -4,7 +4,7 @@ use borrow.Author.Rules.{rules}
 use Rattle.std.proofs.lemmas.Iterator.Consumers.{YieldsList-from_first}
 use Rattle.std.proofs.lemmas.Iterator.Search.{all_from_yields_List}
 use Rattle.rule.proofs.TopicLaws.{is_topic, topics_all}
-use Rattle.json_text.specs.Access.{first_item, places_from}
+use Rattle.json_text.specs.Access.{places_from}
 use Rattle.rule.proofs.topic_list.are_topics.Goals as goal
 
 pub returns : goal.returns

@@ -1,7 +1,6 @@
 -- Each return has the kind of the value. Assumes nothing.
-use mathlib.Core.Path.{sym, ap, ◌∙◌}
+use mathlib.Core.Path.{sym, ◌∙◌}
 use Rattle.rule.proofs.TopicLaws.{topics_array, topics_other}
-use Rattle.rule.specs.Places.{are_topics}
 use Rattle.rule.proofs.topic_list.topics_at.Goals as goal
 
 pub returns-in-Array : goal.returns-in-Array
