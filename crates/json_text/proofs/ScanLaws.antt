@@ -43,13 +43,6 @@ pub at_within : (line : List ℕ) (at b : ℕ) → b < 256 → is_at line at b �
 unfolding is_at
 at_within line at b h e = byte_within line at (omega (arith, eqb-true (byte_at line at) b e))
 
-pub at_past : (line : List ℕ) (at b : ℕ) → b < 256 → length line ≤ at → is_at line at b ≡ false
-at_past line at b h k = isnt (is_at line at b) (λ e. let within = at_within line at b h e in omega arith)
-
-pub at_here : (line : List ℕ) (at b : ℕ) → at < length line → is_at line at b ≡ eqb (get_or line at 0) b
-unfolding is_at
-at_here line at b h = ap (λ (a : ℕ). eqb a b) (byte_here line at h)
-
 -- ---- kinds of bytes
 
 pub is_blank_lem : (b : ℕ) → (b ≡ 0x09) ⊎ ((b ≡ 0x0d) ⊎ (b ≡ 0x20)) → is_blank b ≡ true
