@@ -17,19 +17,10 @@ pub lines_past : (text : List ℕ) (at : ℕ) → length text ≤ at → lines (
 unfolding lines
 lines_past text at h = rw (drop_of_length-le text {i = at} h)
 
--- where a line ends, byte by byte
+-- past the text a line has no bytes
 pub end_past : (text : List ℕ) (at : ℕ) → length text ≤ at → at + length (line_at text at) ≡ at
 unfolding line_at first_line
 end_past text at h = rw (drop_of_length-le text {i = at} h) (omega arith)
-
-pub end_lf : (text : List ℕ) (at : ℕ) → at < length text → get_or text at 0 ≡ lf → at + length (line_at text at) ≡ at
-unfolding line_at first_line
-end_lf text at h e = rw (drop-cons text at 0 h, eq-eqb (get_or text at 0) lf e) (omega arith)
-
-pub end_onward : (text : List ℕ) (at : ℕ) → at < length text → (get_or text at 0 ≡ lf → ⊥) →
-    at + length (line_at text at) ≡ at + 1 + length (line_at text (at + 1))
-unfolding line_at first_line
-end_onward text at h e = rw (add-one, drop-cons text at 0 h, ne_eqb (get_or text at 0) lf e) (omega arith)
 
 -- the first LF ends the line, and without one the text does
 first_found : (text : List ℕ) (n : ℕ) → n < length text → get_or text n 0 ≡ lf → ((k : ℕ) → k < n → get_or text k 0 ≡ lf → ⊥) → n ≡ length (first_line text)
@@ -154,12 +145,6 @@ lines_first b text = at (eqb b lf)
 pub lines_here : (text : List ℕ) (at : ℕ) → at < length text → lines (drop at text) ≡ line_at text at ∷ lines (drop (next_line text at) text)
 unfolding line_at
 lines_here text at h = rw (← next_drop text at, drop-cons text at 0 h) (lines_first (get_or text at 0) (drop (suc at) text))
-
--- the same by the place behind the line's end, which may be past the text
-pub lines_behind : (text : List ℕ) (at : ℕ) → at < length text → lines (drop at text) ≡ line_at text at ∷ lines (drop (at + length (line_at text at) + 1) text)
-lines_behind text at h =
-    let same : at + suc (length (line_at text at)) ≡ at + length (line_at text at) + 1 = omega arith in
-    rw (← next_drop text at, drop-drop, same) at (lines_here text at h)
 
 -- a text by its first line and what is behind that
 pub lines_split : (text : List ℕ) {end next : ℕ} → eqb (length text) 0 ≡ false → end ≡ 0 + length (line_at text 0) → next ≡ line_behind text end

@@ -14,7 +14,7 @@ use Rattle.json_text.proofs.ValueLaws.{value_next}
 use Rattle.json_text.proofs.AccessLaws.{element_place, ElementsIn, array_is}
 
 -- an item stands behind the one before it, within the line
-next_onward : (line : List ℕ) (at : ℕ) {next : ℕ} → next_item line at ≡ Some next → (at < next) × (next ≤ length line)
+pub next_onward : (line : List ℕ) (at : ℕ) {next : ℕ} → next_item line at ≡ Some next → (at < next) × (next ≤ length line)
 unfolding next_item after_comma
 next_onward line at {next} = by (value_here line at) refl
   where
@@ -37,6 +37,21 @@ next_onward line at {next} = by (value_here line at) refl
             let l = blanks_within line (p + 1) (omega arith) in
             (omega arith, omega arith)
         comma false f k = absurd (none-some next k)
+
+-- the first stands behind the bracket, which stands in the line
+pub first_onward : (line : List ℕ) (at : ℕ) {first : ℕ} → first_item 0x5b 0x5d line at ≡ Some first → (at < first) × (at < length line)
+unfolding first_item
+first_onward line at {first} = by (is_at line at 0x5b) (is_at line (skip_blanks line (at + 1)) 0x5d) refl
+  where
+    by : (opens closes : Bool) → is_at line at 0x5b ≡ opens → cond opens (cond closes None (Some (skip_blanks line (at + 1)))) None ≡ Some first
+        → (at < first) × (at < length line)
+    by true true e q = absurd (none-some first q)
+    by true false e q =
+        let z = same_Some (skip_blanks line (at + 1)) first q in
+        let w = at_within line at 0x5b (omega arith) e in
+        let b = blanks_from line (at + 1) in
+        (omega arith, omega arith)
+    by false closes e q = absurd (none-some first q)
 
 -- so many items are left at the most
 abbrev left_from : List ℕ → Option ℕ → ℕ

@@ -33,14 +33,6 @@ pub plains_past : (line : List ℕ) (at : ℕ) → length line ≤ at → skip_p
 unfolding skip_plains
 plains_past line at h = rw (drop_of_length-le line {i = at} h) (omega arith)
 
-pub plains_onward : (line : List ℕ) (at : ℕ) → at < length line → is_plain (get_or line at 0) ≡ true → skip_plains line at ≡ skip_plains line (at + 1)
-unfolding skip_plains
-plains_onward line at h e = rw (add-one, drop-cons line at 0 h, e) (omega arith)
-
-pub plains_end : (line : List ℕ) (at : ℕ) → at < length line → is_plain (get_or line at 0) ≡ false → skip_plains line at ≡ at
-unfolding skip_plains
-plains_end line at h e = rw (drop-cons line at 0 h, e) (omega arith)
-
 pub plains_most : (s : List ℕ) → plains s ≤ length s
 plains_most [] = omega arith
 plains_most (b ∷ s) = at (is_plain b) (plains_most s)

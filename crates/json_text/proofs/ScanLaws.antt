@@ -6,7 +6,8 @@ use mathlib.Core.Path.{◌≡◌, refl, sym, ap, ◌∙◌}
 use mathlib.Core.Logic.{◌⊎◌, inl, inr}
 use mathlib.Core.Bool.{Bool, true, false, cond, true≢false}
 use mathlib.Core.List.{List, [], ◌∷◌}
-use Rattle.std.specs.Prelude.{Option, None, Some}
+use Rattle.std.specs.Bool.{then_some}
+use Rattle.std.specs.Prelude.{Option, None, Some, not}
 use Rattle.text.specs.Maybe.{bind}
 use Rattle.std.proofs.lemmas.Option.{none-some}
 use lib.Dec.{eqb}
@@ -41,13 +42,6 @@ byte_here (b ∷ line) (suc at) h = byte_here line at (omega arith)
 pub at_within : (line : List ℕ) (at b : ℕ) → b < 256 → is_at line at b ≡ true → at < length line
 unfolding is_at
 at_within line at b h e = byte_within line at (omega (arith, eqb-true (byte_at line at) b e))
-
-pub at_past : (line : List ℕ) (at b : ℕ) → b < 256 → length line ≤ at → is_at line at b ≡ false
-at_past line at b h k = isnt (is_at line at b) (λ e. let within = at_within line at b h e in omega arith)
-
-pub at_here : (line : List ℕ) (at b : ℕ) → at < length line → is_at line at b ≡ eqb (get_or line at 0) b
-unfolding is_at
-at_here line at b h = ap (λ (a : ℕ). eqb a b) (byte_here line at h)
 
 -- ---- kinds of bytes
 
@@ -291,3 +285,12 @@ close_next line at close {next} small q = by (is_at line p close) (is_at line p 
         omega (arith, blanks_from line at)
     by false true e q = let z : ◌≡◌ {A = ℕ} 0 1 = cc in absurd (omega arith)
     by false false e q = let z : ◌≡◌ {A = ℕ} 0 1 = cc in absurd (omega arith)
+
+-- what a test answers
+pub told_if : {A : Type 0} (test : Bool) (a : A) → then_some test a ≡ cond test (Some a) None
+told_if true a = refl
+told_if false a = refl
+
+pub told_unless : {A : Type 0} (test : Bool) (a : A) → then_some (not test) a ≡ cond test None (Some a)
+told_unless true a = refl
+told_unless false a = refl

@@ -287,9 +287,6 @@ writing_ends {before = before} {buffer = buffer} {n = n} e w =
 pub writing-length : {whole rest : Option Decoded} {before buffer : List ℕ} {n : ℕ} → Writing whole rest before buffer n → length buffer ≡ length before
 writing-length w = (wrote_lengths w.wrote).0
 
-pub writing_room : {whole rest : Option Decoded} {before buffer : List ℕ} {n : ℕ} → Writing whole rest before buffer n → n ≤ length buffer
-writing_room w = let l = wrote_lengths w.wrote in omega arith
-
 -- a string that was scanned is there, and is as long as was said
 pub record Found (o : Option Decoded) (n : ℕ) : Type 0 where
   pub string : Decoded

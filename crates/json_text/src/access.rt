@@ -38,10 +38,7 @@ fn first_item(line: &[u8], at: usize, opens: u8, closes: u8) -> Option<usize>
         return None;
     }
     let p = skip_blanks(line, at + 1);
-    if is_at(line, p, closes) {
-        return None;
-    }
-    Some(p)
+    (!is_at(line, p, closes)).then_some(p)
 }
 
 // The first element of the array at this place.
@@ -111,7 +108,7 @@ pub fn member_value(line: &[u8], at: usize) -> Option<usize>
     Some(behind.at)
 }
 
-// The number of elements of the array at this place.
+// The number of elements of the array at this place. Not by `Elements`, which just ends before an element that can't be read.
 pub fn count_elements(line: &[u8], at: usize) -> Option<u64>
     ensures { result ≡ spec.element_count line.now at }
 {
@@ -139,7 +136,7 @@ pub fn count_elements(line: &[u8], at: usize) -> Option<u64>
     None
 }
 
-// The value of the last member with this name of the object at this place.
+// The value of the last member with this name of the object at this place, if all of it can be read: so a loop, and no search.
 pub fn member(line: &[u8], at: usize, wanted: &[u8]) -> Option<usize>
     ensures { result ≡ spec.member_named wanted.now line.now at }
 {
@@ -190,10 +187,7 @@ pub fn plain_text(line: &[u8], at: usize) -> Option<usize>
         return None;
     }
     let end = plain_end(line, at + 1);
-    if is_at(line, end, b'"') {
-        return Some(end);
-    }
-    None
+    is_at(line, end, b'"').then_some(end)
 }
 
 // The length of the string at this place, decoded.

@@ -1,5 +1,8 @@
 // One line of JSON, read without a copy: what stands where in the line (document 01, JSON line; RFC 8259). Callers check a line
-// once and then go by places in it; a place is an offset, and every function answers for every place.
+// once and then go by places in it; a place is an offset, and every function answers for every place. The line and the place stay two
+// parameters: a caller has many places in one line, and would join them at each call. Loops over items and over a string's pieces are no
+// iterators: each begins where the one before was read to, and one that can't be read ends all with nothing, which no item of an
+// iterator says as plainly.
 #![tactic(auto)]
 
 pub mod access;

@@ -23,18 +23,17 @@ fn hex_digit(b: u8) -> Option<u32>
     }
 }
 
-// The number that four bytes from `at` on write in hexadecimal.
-fn hex4(line: &[u8], at: usize) -> Option<u32>
-    requires { at ≤ length line.now }
-    ensures { result ≡ spec.hex4 (drop at line.now) }
+// The number that the first four bytes write in hexadecimal.
+fn hex4(bytes: &[u8]) -> Option<u32>
+    ensures { result ≡ spec.hex4 bytes.now }
 {
-    if line.len() - at < 4 {
+    let [a, b, c, d, ..] = bytes else {
         return None;
-    }
-    let a = hex_digit(line[at])?;
-    let b = hex_digit(line[at + 1])?;
-    let c = hex_digit(line[at + 2])?;
-    let d = hex_digit(line[at + 3])?;
+    };
+    let a = hex_digit(*a)?;
+    let b = hex_digit(*b)?;
+    let c = hex_digit(*c)?;
+    let d = hex_digit(*d)?;
     Some(a * 4096 + b * 256 + c * 16 + d)
 }
 
@@ -53,15 +52,14 @@ fn short_escape(e: u8) -> Option<char>
     }
 }
 
-// The low surrogate that is written at `at`, as `\u` and four digits.
-fn low_surrogate(line: &[u8], at: usize) -> Option<u32>
-    requires { at ≤ length line.now }
-    ensures { result ≡ spec.low_surrogate (drop at line.now) }
+// The low surrogate that is written at the front, as `\u` and four digits.
+fn low_surrogate(bytes: &[u8]) -> Option<u32>
+    ensures { result ≡ spec.low_surrogate bytes.now }
 {
-    if !text::begins(&line[at..], b"\\u") {
+    if !text::begins(bytes, b"\\u") {
         return None;
     }
-    let low = hex4(line, at + 2)?;
+    let low = hex4(&bytes[2..])?;
     match low {
         0xdc00..=0xdfff => Some(low),
         _ => None,
@@ -69,14 +67,13 @@ fn low_surrogate(line: &[u8], at: usize) -> Option<u32>
 }
 
 // `\uXXXX`, from the digits on: a high surrogate with the low one behind it, or a character, which a low surrogate alone is not.
-fn unicode_at(line: &[u8], at: usize) -> Option<Piece>
-    requires { at ≤ length line.now }
-    ensures { result ≡ spec.unicode (drop at line.now) }
+fn unicode(bytes: &[u8]) -> Option<Piece>
+    ensures { result ≡ spec.unicode bytes.now }
 {
-    let u = hex4(line, at)?;
+    let u = hex4(bytes)?;
     match u {
         0xd800..=0xdbff => {
-            let low = low_surrogate(line, at + 4)?;
+            let low = low_surrogate(&bytes[4..])?;
             let c = char::from_u32(0x10000 + (u - 0xd800) * 0x400 + (low - 0xdc00))?;
             Some(Piece::Escaped(c, 12))
         }
@@ -88,15 +85,12 @@ fn unicode_at(line: &[u8], at: usize) -> Option<Piece>
 }
 
 // An escape, from the byte behind the backslash on.
-fn escape_at(line: &[u8], at: usize) -> Option<Piece>
-    ensures { result ≡ spec.escape (drop at line.now) }
+fn escape(bytes: &[u8]) -> Option<Piece>
+    ensures { result ≡ spec.escape bytes.now }
 {
-    if line.len() <= at {
-        return None;
-    }
-    let e = line[at];
+    let (&e, rest) = bytes.split_first()?;
     if e == b'u' {
-        return unicode_at(line, at + 1);
+        return unicode(rest);
     }
     let short = short_escape(e)?;
     Some(Piece::Escaped(short, 2))
@@ -112,7 +106,7 @@ pub fn piece_at(line: &[u8], at: usize) -> Option<Piece>
     let b = line[at];
     match b {
         b'"' => Some(Piece::Closes),
-        b'\\' => escape_at(line, at + 1),
+        b'\\' => escape(&line[at + 1..]),
         0..=0x1f => None,
         0x20..=0x7f => Some(Piece::Raw(1)),
         _ => {
@@ -199,7 +193,7 @@ pub fn string_is(line: &[u8], at: usize, wanted: &[u8]) -> bool
     decoded_is(line, at, wanted)
 }
 
-// The same, piece by piece.
+// The same, piece by piece; each piece may decide it, so that the loop answers from inside.
 fn decoded_is(line: &[u8], at: usize, wanted: &[u8]) -> bool
     ensures { result ≡ access.string_is line.now at wanted.now }
 {

@@ -4,6 +4,7 @@ ghost use Rattle.json_text.specs.Utf8 as utf;
 ghost use Rattle.json_text.specs.Json as spec;
 ghost use Rattle.json_text.specs.Access as access;
 
+use crate::access::kind_at;
 use crate::strings::scan_string;
 use crate::{Cursor, Kind, Literal, Read, Separator};
 
@@ -56,7 +57,7 @@ fn is_digit(b: u8) -> bool
     matches!(b, b'0'..=b'9')
 }
 
-// The number whose first digit stands at `at`.
+// The number whose first digit stands at `at`: a loop, which ends at what is no digit, or with nothing where the number gets too large.
 pub fn number_at(line: &[u8], at: usize) -> Option<Read<u64>>
     ensures { result ≡ spec.number_at line.now at }
 {
@@ -100,10 +101,7 @@ pub fn number(c: Cursor, line: &[u8]) -> Option<Cursor>
     ensures { result ≡ access.stepped access.no_string c.longest (spec.number_at line.now c.at) }
 {
     let read = number_at(line, c.at)?;
-    Some(Cursor {
-        at: read.next,
-        longest: c.longest,
-    })
+    Some(Cursor { at: read.next, ..c })
 }
 
 pub fn string(c: Cursor, line: &[u8]) -> Option<Cursor>
@@ -131,7 +129,7 @@ pub fn word(c: Cursor, line: &[u8]) -> Option<Cursor>
     let word = literal_at(line, c.at)?;
     Some(Cursor {
         at: c.at + word_size(word),
-        longest: c.longest,
+        ..c
     })
 }
 
@@ -144,7 +142,7 @@ pub fn name(c: Cursor, line: &[u8]) -> Option<Cursor>
     if is_at(line, p, b':') {
         return Some(Cursor {
             at: skip_blanks(line, p + 1),
-            longest: behind.longest,
+            ..behind
         });
     }
     None
@@ -155,28 +153,19 @@ pub fn name(c: Cursor, line: &[u8]) -> Option<Cursor>
 pub fn value(c: Cursor, line: &[u8], depth: usize) -> Option<Cursor>
     ensures { result ≡ access.stepped spec.longest c.longest (spec.value_at depth line.now c.at) }
 {
-    let at = c.at;
-    if line.len() <= at {
-        return None;
-    }
-    match kind_of(line[at]) {
+    match kind_at(line, c.at) {
         Kind::Number => number(c, line),
         Kind::Text => string(c, line),
         Kind::Array => {
-            if depth == 0 {
-                return None;
-            }
-            bracket(c, line, depth - 1, false)
+            let inside = depth.checked_sub(1)?;
+            bracket(c, line, inside, false)
         }
         Kind::Object => {
-            if depth == 0 {
-                return None;
-            }
-            bracket(c, line, depth - 1, true)
+            let inside = depth.checked_sub(1)?;
+            bracket(c, line, inside, true)
         }
         Kind::Word => word(c, line),
-        Kind::Blank => None,
-        Kind::Other => None,
+        Kind::Blank | Kind::Other => None,
     }
 }
 
@@ -194,7 +183,8 @@ pub fn separator(line: &[u8], at: usize, close: u8) -> Option<Separator>
     None
 }
 
-// The closing bracket of an object or an array.
+// The closing bracket of an object or an array. Both are read by the same functions, and `object` says which it is: two of each would
+// differ in the bracket, and in that a member's name is passed over before its value.
 fn closing(object: bool) -> u8
     ensures { result ≡ access.closing object }
 {
@@ -206,22 +196,14 @@ fn closing(object: bool) -> u8
 pub fn bracket(c: Cursor, line: &[u8], depth: usize, object: bool) -> Option<Cursor>
     ensures { result ≡ access.stepped spec.longest c.longest (access.bracketed object (spec.value_at depth line.now) line.now c.at) }
 {
-    let at = c.at;
-    if line.len() <= at {
+    if line.len() <= c.at {
         return None;
     }
-    let first = skip_blanks(line, at + 1);
-    let inside = Cursor {
-        at: first,
-        longest: c.longest,
-    };
+    let first = skip_blanks(line, c.at + 1);
     if is_at(line, first, closing(object)) {
-        return Some(Cursor {
-            at: first + 1,
-            longest: c.longest,
-        });
+        return Some(Cursor { at: first + 1, ..c });
     }
-    items(inside, line, depth, object)
+    items(Cursor { at: first, ..c }, line, depth, object)
 }
 
 // The items from the cursor on, with commas between them, up to and with the closing bracket.
@@ -232,13 +214,12 @@ pub fn items(c: Cursor, line: &[u8], depth: usize, object: bool) -> Option<Curso
     let mut cursor = c;
     while cursor.at < line.len() {
         let behind = item(cursor, line, depth, object)?;
-        let longest = behind.longest;
         match separator(line, behind.at, closing(object))? {
             Separator::Close(at) => {
-                return Some(Cursor { at, longest });
+                return Some(Cursor { at, ..behind });
             }
             Separator::Comma(at) => {
-                cursor = Cursor { at, longest };
+                cursor = Cursor { at, ..behind };
             }
         }
     }
@@ -263,10 +244,7 @@ pub fn check(line: &[u8]) -> Option<usize>
         longest: 0,
     };
     let behind = value(first, line, DEPTH)?;
-    if skip_blanks(line, behind.at) == line.len() {
-        return Some(behind.longest);
-    }
-    None
+    (skip_blanks(line, behind.at) == line.len()).then_some(behind.longest)
 }
 
 // Is the line a document?

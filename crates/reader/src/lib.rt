@@ -50,26 +50,31 @@ impl<'a> Reader<'a> {
         kind_at(self.line, self.at)
     }
 
-    // The reader moved into the array that comes next: to its first element, or to the line's end if there is none.
-    #[tactic(auto, unfolding(crate::specs::Reader::first_offset, crate::specs::Reader::offset_of))]
-    pub fn enter(self) -> Reader<'a>
-        ensures { (result.line ≡ self.entry.line) × (result.at ≡ spec.first_offset self.entry.line.now self.entry.at) }
+    // The reader moved to a place, or to the line's end if there is none.
+    #[tactic(auto, unfolding(crate::specs::Reader::offset_of))]
+    fn moved(self, to: Option<usize>) -> Reader<'a>
+        ensures { (result.line ≡ self.entry.line) × (result.at ≡ spec.offset_of self.entry.line.now to) }
     {
         Reader {
             line: self.line,
-            at: first_element(self.line, self.at).unwrap_or(self.line.len()),
+            at: to.unwrap_or(self.line.len()),
         }
     }
 
+    // The reader moved into the array that comes next: to its first element, or to the line's end if there is none.
+    #[tactic(auto, unfolding(crate::specs::Reader::first_offset))]
+    pub fn enter(self) -> Reader<'a>
+        ensures { (result.line ≡ self.entry.line) × (result.at ≡ spec.first_offset self.entry.line.now self.entry.at) }
+    {
+        self.moved(first_element(self.line, self.at))
+    }
+
     // The reader moved over an element and its comma: to the next element, or to the line's end if there is none.
-    #[tactic(auto, unfolding(crate::specs::Reader::next_offset, crate::specs::Reader::offset_of))]
+    #[tactic(auto, unfolding(crate::specs::Reader::next_offset))]
     pub fn next(self) -> Reader<'a>
         ensures { (result.line ≡ self.entry.line) × (result.at ≡ spec.next_offset self.entry.line.now self.entry.at) }
     {
-        Reader {
-            line: self.line,
-            at: next_item(self.line, self.at).unwrap_or(self.line.len()),
-        }
+        self.moved(next_item(self.line, self.at))
     }
 
     // The place of what comes next; nowhere at the line's end.

@@ -4,6 +4,7 @@ use native.Mathlib.Omega.{arith}
 use mathlib.Core.Path.{◌≡◌, refl, sym, ap, subst, ◌∙◌}
 use mathlib.Core.Bool.{Bool, true, false, ◌||◌, cond, true≢false}
 use mathlib.Core.List.{List, [], ◌∷◌}
+use Rattle.std.specs.Bool.{then_some}
 use Rattle.std.specs.Prelude.{Option, None, Some, is_some, option_map, option_and_then, IfSome}
 use Rattle.text.specs.Maybe.{bind}
 use lib.Dec.{eqb, leb}
@@ -96,6 +97,12 @@ value_topic line at {v} {end} e h g = by (topic_of (record { at = at; value = v 
 -- what is told of an answer
 pub answered : {A : Type 0} {o : Option A} {a : A} (holds : A → Type 0) → o ≡ Some a → IfSome o holds → holds a
 answered holds e h = subst (λ (o : Option _). IfSome o holds) e h
+
+-- what is answered by a test
+pub then_told : {A : Type 0} (holds : A → Type 0) {answer : Option A} {a : A} (test : Bool) → answer ≡ then_some test a → (test ≡ true → holds a)
+    → IfSome answer holds
+then_told holds true e h = subst (λ (o : Option _). IfSome o holds) (sym e) (h refl)
+then_told holds false e h = subst (λ (o : Option _). IfSome o holds) (sym e) tt
 
 -- topics from a place on, at most so many, and behind them the closing bracket
 pub record TopicsFrom (line : List ℕ) (at room end : ℕ) : Type 0 where

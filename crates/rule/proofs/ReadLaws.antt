@@ -1,17 +1,16 @@
 -- Laws of the reading functions, each by the tests that its function makes; the step of `count_rules`'s loop. Assumes nothing.
-use Prim.Native.Nat.{ℕ, suc, ◌+◌, ◌-◌, ◌≤◌, ◌<◌}
+use Prim.Native.Nat.{ℕ, suc, ◌+◌, ◌≤◌, ◌<◌}
 use native.Mathlib.Numerals.{add-one}
 use native.Mathlib.Omega.{arith}
 use mathlib.Core.Path.{◌≡◌, refl, sym, ap, ◌∙◌}
 use mathlib.Core.Bool.{Bool, true, false, cond}
-use mathlib.Core.List.{List, ◌∷◌}
+use mathlib.Core.List.{List, [], ◌∷◌}
 use Rattle.std.specs.Prelude.{Option, None, Some, Ok, Err, Result}
 use lib.Dec.{ltb}
-use lib.ListN.{length, drop}
+use lib.ListN.{length}
 use borrow.Author.Tests.{lt-ltb, le-ltb}
-use Rattle.json_text.specs.Lines.{lines, line_at, count_up_to}
+use Rattle.json_text.specs.Lines.{lines, count_up_to}
 use Rattle.json_text.specs.Json.{line_value}
-use Rattle.json_text.proofs.LineLaws.{lines_behind, lines_past}
 use Rattle.rule.specs.Limits.{lines_limit}
 use Rattle.rule.specs.Rule as spec
 use Rattle.rule.specs.RuleText.{Fault, over_lines, or_not_a_rule, read_rule, fault_in, text_fault}
@@ -54,98 +53,77 @@ unfoldable pub fault_on : ℕ → List (List ℕ) → Result Rule Refusal → Op
 fault_on n rest (Ok r) = fault_in (n + 1) rest
 fault_on n rest (Err cause) = Some (record { cause = cause; line = n })
 
-fault_by : (text : List ℕ) (n at : ℕ) {line : List ℕ} {answer read : Result Rule Refusal} → at < length text → line ≡ line_at text at
-    → answer ≡ rule_answer (fourth_of (line_value line)) (read_rule line) → answer ≡ read
-    → fault_in n (lines (drop at text)) ≡ fault_on n (lines (drop (at + length (line_at text at) + 1) text)) read
+fault_by : (n : ℕ) (line : List ℕ) (rest : List (List ℕ)) {answer read : Result Rule Refusal}
+    → answer ≡ rule_answer (fourth_of (line_value line)) (read_rule line) → answer ≡ read → fault_in n (line ∷ rest) ≡ fault_on n rest read
 unfolding fault_in fault_on rule_answer
-fault_by text n at {line} h l e q =
-    ap (fault_in n) (lines_behind text at h ∙ ap (λ (s : List ℕ). s ∷ rest) (sym l)) ∙ (by (read_rule line) ∙ ap (fault_on n rest) (sym e ∙ q))
+fault_by n line rest e q = by (read_rule line) ∙ ap (fault_on n rest) (sym e ∙ q)
   where
-    rest : List (List ℕ)
-    rest = lines (drop (at + length (line_at text at) + 1) text)
-
     by : (r : Result spec.Rule Refusal) →
         elim r [ Err cause ↦ Some (record { cause = cause; line = n }) | Ok r ↦ fault_in (suc n) rest ]
         ≡ fault_on n rest (rule_answer (fourth_of (line_value line)) r)
     by (Err cause) = refl
     by (Ok r) = ap (λ (k : ℕ). fault_in k rest) (sym (add-one n))
 
--- `n` lines of a text, up to `at`, are rules
-pub record Passed (text : List ℕ) (n at : ℕ) : Type 0 where
+-- the first `n` lines of a text are rules, and these are left
+pub record Passed (text : List ℕ) (n : ℕ) (left : List (List ℕ)) : Type 0 where
   pub few : n ≤ lines_limit
-  pub all : n + length (lines (drop at text)) ≡ length (lines text)
-  pub fault : fault_in (n + 1) (lines (drop at text)) ≡ fault_in 1 (lines text)
+  pub all : n + length left ≡ length (lines text)
+  pub fault : fault_in (n + 1) left ≡ fault_in 1 (lines text)
 
--- one line more, which ends at `end`
-pub read_more : (text : List ℕ) (n at end : ℕ) {line : List ℕ} {answer : Result Rule Refusal} {rule : Rule} → Passed text n at → at < length text → (n ≡ lines_limit → ⊥)
-    → end ≡ at + length (line_at text at) → line ≡ line_at text at
-    → answer ≡ rule_answer (fourth_of (line_value line)) (read_rule line) → answer ≡ Ok rule → Passed text (n + 1) (end + 1)
-unfolding fault_on
-read_more text n at end r h k p l e q =
-    let next = ap length (lines_behind text at h) in
-    let few = r.few in
-    let all = r.all in
-    rw p
-    (record {
-      few = omega arith;
-      all = omega arith;
-      fault = sym (fault_by text (n + 1) at h l e q) ∙ r.fault;
-    })
+module _ {text : List ℕ} {n : ℕ} {left rest : List (List ℕ)} {line : List ℕ} (r : Passed text n left) (s : left ≡ line ∷ rest) where
+  -- one line more
+  pub read_more : {answer : Result Rule Refusal} {rule : Rule} → (n ≡ lines_limit → ⊥)
+      → answer ≡ rule_answer (fourth_of (line_value line)) (read_rule line) → answer ≡ Ok rule → Passed text (n + 1) rest
+  unfolding fault_on
+  read_more k e q =
+      record {
+        few = omega (arith, r.few);
+        all = omega (arith, r.all, ap length s);
+        fault = sym (ap (fault_in (n + 1)) s ∙ fault_by (n + 1) line rest e q) ∙ r.fault;
+      }
 
--- the 257th line begins
-pub read_over : (text : List ℕ) (n at : ℕ) → Passed text n at → at < length text → n ≡ lines_limit
-    → Err over_lines ≡ rules_answer (length (lines text)) (text_fault text)
-unfolding rules_answer
-read_over text n at r h k =
-    sym (ap (rules_answer (length (lines text))) (text_over text (omega (arith, r.all, ap length (lines_behind text at h)))))
+  -- the 257th line begins
+  pub read_over : n ≡ lines_limit → Err over_lines ≡ rules_answer (length (lines text)) (text_fault text)
+  unfolding rules_answer
+  read_over k = sym (ap (rules_answer (length (lines text))) (text_over text (omega (arith, r.all, ap length s))))
 
--- the line is faulty
-pub read_faulty : (text : List ℕ) (n at : ℕ) {line : List ℕ} {answer : Result Rule Refusal} {cause : Refusal} → Passed text n at → at < length text → line ≡ line_at text at
-    → answer ≡ rule_answer (fourth_of (line_value line)) (read_rule line) → answer ≡ Err cause
-    → Err (faulty_line (n + length (lines (drop at text))) cause (n + 1)) ≡ rules_answer (length (lines text)) (text_fault text)
-unfolding faulty_line rules_answer fault_on text_fault
-read_faulty text n at {cause = cause} r h l e q = rw r.all (by (ltb lines_limit (length (lines text))))
-  where
-    fault : fault_in 1 (lines text) ≡ Some (record { cause = cause; line = n + 1 })
-    fault = sym r.fault ∙ fault_by text (n + 1) at h l e q
+  -- the line is faulty
+  pub read_faulty : {answer : Result Rule Refusal} {cause : Refusal} → answer ≡ rule_answer (fourth_of (line_value line)) (read_rule line) → answer ≡ Err cause
+      → Err (faulty_line (length (lines text)) cause (n + 1)) ≡ rules_answer (length (lines text)) (text_fault text)
+  unfolding faulty_line rules_answer fault_on text_fault
+  read_faulty {cause = cause} e q = by (ltb lines_limit (length (lines text)))
+    where
+      fault : fault_in 1 (lines text) ≡ Some (record { cause = cause; line = n + 1 })
+      fault = sym r.fault ∙ (ap (fault_in (n + 1)) s ∙ fault_by (n + 1) line rest e q)
 
-    by : (over : Bool)
-        → Err (cond over over_lines (record { cause = cause; line = n + 1 }))
-        ≡ rules_answer (length (lines text)) (cond over (Some over_lines) (fault_in 1 (lines text)))
-    by true = refl
-    by false = rw fault
+      by : (over : Bool)
+          → Err (cond over over_lines (record { cause = cause; line = n + 1 }))
+          ≡ rules_answer (length (lines text)) (cond over (Some over_lines) (fault_in 1 (lines text)))
+      by true = refl
+      by false = rw fault
 
 -- no line is left
-pub read_all : (text : List ℕ) (n at : ℕ) → Passed text n at → length text ≤ at → Ok n ≡ rules_answer (length (lines text)) (text_fault text)
+pub read_all : {text : List ℕ} {n : ℕ} {left : List (List ℕ)} → Passed text n left → left ≡ [] → Ok n ≡ rules_answer (length (lines text)) (text_fault text)
 unfolding rules_answer fault_in
-read_all text n at r h =
-    let past = lines_past text at h in
-    let all : n ≡ length (lines text) = omega (arith, r.all, r.few, ap length past) in
+read_all {text} {n} r s =
+    let all : n ≡ length (lines text) = omega (arith, r.all, ap length s) in
     ap Ok all
     ∙ sym
     (ap (rules_answer (length (lines text)))
-    (text_fits text (omega (arith, r.few)) ∙ (sym r.fault ∙ ap (fault_in (n + 1)) past)))
+    (text_fits text (omega (arith, r.few)) ∙ (sym r.fault ∙ ap (fault_in (n + 1)) s)))
 
--- what the count of the other lines tells
-pub faulty_over : (rest : List ℕ) (n : ℕ) (cause : Refusal) (line : ℕ) → n ≤ lines_limit → lines_limit - n < count_up_to (lines_limit - n) rest
-    → over_lines ≡ faulty_line (n + length (lines rest)) cause line
+-- what the count of the lines tells
+pub faulty_over : (text : List ℕ) (cause : Refusal) (line : ℕ) → lines_limit < count_up_to lines_limit text → over_lines ≡ faulty_line (length (lines text)) cause line
 unfolding faulty_line count_up_to
-faulty_over rest n cause line h k = rw (lt-ltb lines_limit (n + length (lines rest)) (omega arith))
+faulty_over text cause line h = rw (lt-ltb lines_limit (length (lines text)) (omega arith))
 
-pub faulty_here : (rest : List ℕ) (n : ℕ) (cause : Refusal) (line : ℕ) → n ≤ lines_limit → count_up_to (lines_limit - n) rest ≤ lines_limit - n
-    → record { cause = cause; line = line } ≡ faulty_line (n + length (lines rest)) cause line
+pub faulty_here : (text : List ℕ) (cause : Refusal) (line : ℕ) → count_up_to lines_limit text ≤ lines_limit
+    → record { cause = cause; line = line } ≡ faulty_line (length (lines text)) cause line
 unfolding faulty_line count_up_to
-faulty_here rest n cause line h k = rw (le-ltb lines_limit (n + length (lines rest)) (omega arith))
+faulty_here text cause line h = rw (le-ltb lines_limit (length (lines text)) (omega arith))
 
 -- what the answers tell
 pub rules_told : {answer : Result ℕ Fault} {k : ℕ} (n : ℕ) (f : Option Fault) → answer ≡ rules_answer n f → answer ≡ Ok k → (f ≡ None) × (k ≡ n)
 unfolding rules_answer
 rules_told {answer} {k} n None e q = let same : k ≡ n = cc in (refl, same)
 rules_told n (Some f) e q = let z : ◌≡◌ {A = ℕ} 0 1 = cc in absurd (omega arith)
-
-pub rules_faulty_told : {answer : Result ℕ Fault} {cause : Refusal} {line : ℕ} (n : ℕ) (f : Option Fault) → answer ≡ rules_answer n f
-    → answer ≡ (Err (record { cause = cause; line = line })) → f ≡ Some (record { cause = cause; line = line })
-unfolding rules_answer
-rules_faulty_told n None e q = let z : ◌≡◌ {A = ℕ} 0 1 = cc in absurd (omega arith)
-rules_faulty_told {answer} {cause} {line} n (Some f) e q =
-    let same : f ≡ record { cause = cause; line = line } = cc in ap Some same

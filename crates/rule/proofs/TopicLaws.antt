@@ -3,7 +3,7 @@ use Prim.Native.Nat.{ℕ, zero, suc, ◌+◌, ◌-◌, ◌≤◌, ◌<◌}
 use native.Mathlib.Omega.{arith}
 use mathlib.Core.Path.{◌≡◌, refl, sym, ap, ◌∙◌}
 use mathlib.Core.Bool.{Bool, true, false, ◌&&◌, ◌||◌, cond, true≢false}
-use Rattle.std.specs.List.{list_any}
+use Rattle.std.specs.List.{list_any, list_all}
 use mathlib.Core.List.{List, [], ◌∷◌}
 use Rattle.std.specs.Result.{result_ok}
 use Rattle.std.specs.Prelude.{Option, None, Some, is_some, option_map, option_and_then, Result}
@@ -17,10 +17,11 @@ use Rattle.text.proofs.Laws.{isnt}
 use Rattle.topic.specs.Topic.{valid_filter}
 use Rattle.json_text.specs.Utf8.{byte_at, between}
 use Rattle.json_text.specs.Strings.{Decoded, string_at}
-use Rattle.json_text.specs.Json.{object, Members, is_at, kind_of}
-use Rattle.json_text.specs.Access.{kind_at, first_item, next_item, copied, decoded_into}
+use Rattle.json_text.specs.Json.{object, Members, is_at, kind_of, depth_limit}
+use Rattle.json_text.specs.Access.{kind_at, first_item, next_item, places, places_from, copied, decoded_into}
 use Rattle.json_text.specs.declared.Kind.TheVariants.{Text, Array, Object}
-use Rattle.json_text.proofs.ValueLaws.{All}
+use Rattle.json_text.proofs.ValueLaws.{All, value_past}
+use Rattle.json_text.proofs.PlaceLaws.{next_onward, first_onward}
 use Rattle.json_text.proofs.AccessSteps.{kind_opens}
 use Rattle.json_text.proofs.PlainLaws.{Plain}
 use Rattle.rule.specs.Rule as spec
@@ -158,24 +159,47 @@ module _ (line : List ℕ) (at : ℕ) where
 
 -- ---- the topics of an array
 
-pub topics_end : (most : ℕ) (line : List ℕ) → topics_from most line None ≡ true
+topics_end : (most : ℕ) (line : List ℕ) → topics_from most line None ≡ true
 unfolding topics_from
 topics_end zero line = refl
 topics_end (suc most) line = refl
 
-pub topics_none : (most : ℕ) (line : List ℕ) (place : Option ℕ) → most ≤ 0 → topics_from most line place ≡ true
-unfolding topics_from
-topics_none zero line place h = refl
-topics_none (suc most) line place h = absurd (omega arith)
+-- is the element at a place a topic?
+unfoldable pub is_topic : List ℕ → ℕ → Bool
+is_topic line p = is_some (topic_answer (bind (value_of line p) topic_of))
 
-pub topics_next : (most : ℕ) (line : List ℕ) (p : ℕ) {b : Bool} → 0 < most → is_some (topic_answer (bind (value_of line p) topic_of)) ≡ b
-    → topics_from most line (Some p) ≡ (b && topics_from (most - 1) line (next_item line p))
-unfolding topics_from
-topics_next zero line p h e = absurd (omega arith)
-topics_next (suc most) line p h e = λ i. e i && topics_from (less i) line (next_item line p)
+past_topic : (line : List ℕ) (p : ℕ) → length line ≤ p → is_topic line p ≡ false
+unfolding is_topic value_of topic_answer bind
+past_topic line p h = rw (value_past depth_limit line p h)
+
+topics_places : (most : ℕ) (line : List ℕ) (place : Option ℕ) → list_all (is_topic line) (places most line place) ≡ topics_from most line place
+unfolding places topics_from is_topic
+topics_places zero line place = refl
+topics_places (suc most) line None = refl
+topics_places (suc most) line (Some p) = ap (λ (b : Bool). is_topic line p && b) (topics_places most line (next_item line p))
+
+-- no more of them stand in the line than it has bytes
+topics_enough : (n : ℕ) (line : List ℕ) (p : ℕ) → 0 < n → length line < p + n → topics_from (suc n) line (Some p) ≡ topics_from n line (Some p)
+unfolding topics_from is_topic
+topics_enough zero line p l h = absurd (omega arith)
+topics_enough (suc n) line p l h = by n (topics_enough n line) (is_topic line p) (next_item line p) refl refl h
   where
-    less : most ≡ suc most - 1
-    less = omega arith
+    by : (n : ℕ) → ((q : ℕ) → 0 < n → length line < q + n → topics_from (suc n) line (Some q) ≡ topics_from n line (Some q))
+        → (t : Bool) (next : Option ℕ) → is_topic line p ≡ t → next_item line p ≡ next → length line < p + suc n
+        → (t && topics_from (suc n) line next) ≡ (t && topics_from n line next)
+    by n again false next e f h = refl
+    by n again true None e f h = topics_end (suc n) line ∙ sym (topics_end n line)
+    by zero again true (Some q) e f h = absurd (true≢false (sym e ∙ past_topic line p (omega arith)))
+    by (suc n) again true (Some q) e f h = again q (omega arith) (omega (arith, next_onward line p f))
+
+pub topics_all : (line : List ℕ) (at : ℕ)
+    → list_all (is_topic line) (places_from line (first_item 0x5b 0x5d line at)) ≡ are_topics line (first_item 0x5b 0x5d line at)
+unfolding places_from are_topics
+topics_all line at = topics_places (suc (length line)) line (first_item 0x5b 0x5d line at) ∙ by (first_item 0x5b 0x5d line at) refl
+  where
+    by : (first : Option ℕ) → first_item 0x5b 0x5d line at ≡ first → topics_from (suc (length line)) line first ≡ topics_from (length line) line first
+    by None e = topics_end (suc (length line)) line ∙ sym (topics_end (length line) line)
+    by (Some p) e = let f = first_onward line at e in topics_enough (length line) line p (omega arith) (omega arith)
 
 pub topics_array : (line : List ℕ) (at : ℕ) → kind_at line at ≡ Array → are_topics line (first_item 0x5b 0x5d line at) ≡ topics_here line at
 unfolding topics_here kind_at

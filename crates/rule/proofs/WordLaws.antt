@@ -1,15 +1,13 @@
 -- Laws of the words of `specs/Rule.antt` and `specs/Places.antt`. Assumes nothing.
-use Prim.Native.Nat.{ℕ, ◌+◌, ◌≤◌, ◌<◌}
-use mathlib.Core.Path.{◌≡◌, sym, ap, ◌∙◌}
-use mathlib.Core.Bool.{Bool, true, false, ◌&&◌, cond}
-use mathlib.Core.List.{List, map}
+use Prim.Native.Nat.{ℕ, ◌≤◌, ◌<◌}
+use mathlib.Core.Path.{◌≡◌, refl, sym, ap, ◌∙◌}
+use mathlib.Core.Bool.{Bool, false, ◌&&◌, cond}
+use mathlib.Core.List.{List, [], ◌∷◌, map}
+use Rattle.std.specs.List.{list_all, zip}
 use Rattle.std.specs.Prelude.{None, Some, option_and_then}
-use native.Mathlib.Numerals.{add-one}
 use native.Mathlib.Omega.{arith}
-use borrow.Author.Tests.{eq-eqb, ne_eqb}
 use lib.Dec.{eqb}
-use lib.ListN.{length, drop, get_or, length-map, drop_of_length-le}
-use lib.Seq.{drop-cons}
+use lib.ListN.{length, length-map}
 use Rattle.text.specs.Ascii.{ascii}
 use Rattle.text.specs.Text.{same}
 use Rattle.text.proofs.Laws.{same_lengths}
@@ -25,23 +23,13 @@ pub word_lengths : (word t : List ℕ) → (length t ≡ length word → ⊥) �
 unfolding is_word
 word_lengths word t h = same_lengths (map lower t) word (λ e. h (sym (length-map t lower) ∙ e))
 
--- the step of the loop of `is_word`, where two bytes agree and where they differ, and its end
-word_step : (word t : List ℕ) (i : ℕ) → i < length word → i < length t
-    → is_word (drop i word) (drop i t) ≡ (eqb (lower (get_or t i 0)) (get_or word i 0) && is_word (drop (i + 1) word) (drop (i + 1) t))
+-- of one length, it is the word where each byte, lowered, is the word's
+pub word_bytes : (word t : List ℕ) → length t ≡ length word → list_all (λ (p : ℕ × ℕ). eqb (lower p.0) p.1) (zip t word) ≡ is_word word t
 unfolding is_word same
-word_step word t i h k = rw (add-one, drop-cons word i 0 h, drop-cons t i 0 k)
-
-pub word_agree : (word t : List ℕ) (i : ℕ) → i < length word → i < length t → lower (get_or t i 0) ≡ get_or word i 0
-    → is_word (drop i word) (drop i t) ≡ is_word (drop (i + 1) word) (drop (i + 1) t)
-word_agree word t i h k e = word_step word t i h k ∙ rw (eq-eqb _ _ e)
-
-pub word_differ : (word t : List ℕ) (i : ℕ) → i < length word → i < length t → (lower (get_or t i 0) ≡ get_or word i 0 → ⊥)
-    → is_word (drop i word) (drop i t) ≡ false
-word_differ word t i h k e = word_step word t i h k ∙ rw (ne_eqb _ _ e)
-
-pub word_end : (word t : List ℕ) (i : ℕ) → length word ≤ i → length t ≤ i → is_word (drop i word) (drop i t) ≡ true
-unfolding is_word same
-word_end word t i h k = rw (drop_of_length-le word h, drop_of_length-le t k)
+word_bytes [] [] h = refl
+word_bytes [] (b ∷ t) h = absurd (omega arith)
+word_bytes (w ∷ word) [] h = absurd (omega arith)
+word_bytes (w ∷ word) (b ∷ t) h = ap (λ (rest : Bool). eqb (lower b) w && rest) (word_bytes word t (omega arith))
 
 -- ---- the words of a rule
 

@@ -130,11 +130,6 @@ topic_answer o = option_and_then placed_topic o
 unfoldable pub elements_of : Json → Option Elements
 elements_of v = spec.as_array (record { at = 0; value = v })
 
-unfoldable pub parts_of : Option Elements → Parts
-parts_of None = record { access = None; users = None; control = None; topics = None }
-parts_of (Some es) =
-    record { access = place_of (nth 0 es); users = place_of (nth 1 es); control = place_of (nth 2 es); topics = place_of (nth 3 es) }
-
 -- a rule, by its places
 unfoldable pub placed_rule : Option Value → spec.Rule → Rule
 placed_rule topics r =

@@ -132,5 +132,5 @@ pub fn identity(line: &[u8], users: Users, client: &Client) -> Option<bool>
         && place_agrees(line, users.clientid, Some(client.id))
         && place_agrees(line, users.ipaddr, client.address)
         && protocol_agrees(users.protocol, client.protocol);
-    if agrees { Some(flag(users)) } else { None }
+    agrees.then_some(flag(users))
 }

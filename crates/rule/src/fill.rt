@@ -1,4 +1,5 @@
-// Filling templates: `%c` by the client id, then `%u` by the user name, in two passes over the whole text.
+// Filling templates: `%c` by the client id, then `%u` by the user name, in two passes over the whole text. The two are parameters and no
+// `Client`, since callers fill for a client of whom they have no more.
 ghost use Rattle.std.specs.Prelude.{◌≡◌, ◌≤◌, length};
 ghost use Rattle.std.specs.Option.{option_copied};
 ghost use Rattle.json_text.specs.Strings.{string_at};

@@ -37,8 +37,7 @@ fn is_text(line: &[u8], at: usize) -> bool
 fn text_at(line: &[u8], at: Option<usize>) -> Option<usize>
     ensures { result ≡ members.text_from line.now at }
 {
-    let p = at?;
-    if is_text(line, p) { Some(p) } else { None }
+    at.filter(|&p| is_text(line, p))
 }
 
 // The string that the last member with this name has, of the object at this place.
@@ -79,7 +78,7 @@ pub fn number_at(line: &[u8], at: Option<usize>) -> Option<u64>
     number_value(line, at?)
 }
 
-// The name, and under allow its password and flag.
+// The name, and under allow its password and flag: `allow` is what the rule's line says, no switch of the caller's.
 #[tactic(auto, unfolding(crate::specs::Members::user_listed, crate::specs::Members::user_from, crate::specs::Members::with_password, crate::specs::Rule::flag))]
 fn user_at(line: &[u8], places: MemberPlaces, allow: bool) -> Option<Option<User>>
     ensures { result ≡ members.user_listed allow line.now places }

@@ -29,11 +29,7 @@ fn part_end(line: &[u8], at: usize, longest: usize) -> Option<usize>
     ensures { IfSome result (spec.PartTo 6 line.now at longest) }
 {
     let behind = value(Cursor { at, longest }, line, IN_PART)?;
-    if TEXT < behind.longest {
-        None
-    } else {
-        Some(behind.at)
-    }
+    (behind.longest <= TEXT).then_some(behind.at)
 }
 
 // Is the text a template, or a valid filter? Most are valid, so that is tested first.
@@ -48,11 +44,7 @@ fn topic_passed(line: &[u8], at: usize) -> Option<usize>
     ensures { IfSome result (spec.TopicTo line.now at) }
 {
     let end = part_end(line, at, 0)?;
-    if topic_at(line, at).is_some() {
-        Some(end)
-    } else {
-        None
-    }
+    topic_at(line, at).is_some().then_some(end)
 }
 
 // The place behind the object at this place: one whose only member is a plain `eq` is read as it stands.
@@ -62,11 +54,7 @@ fn eq_end(line: &[u8], at: usize) -> Option<usize>
     let Some(eq) = eq_text(line, at) else {
         return topic_passed(line, at);
     };
-    if TEXT < eq.closes - (eq.opens + 1) {
-        None
-    } else {
-        Some(eq.next)
-    }
+    (eq.closes - (eq.opens + 1) <= TEXT).then_some(eq.next)
 }
 
 // The place behind the string at this place: a plain one is tested as it stands.
@@ -121,11 +109,7 @@ fn topics_end(line: &[u8], at: usize) -> Option<usize>
 fn at_end(line: &[u8], next: usize, rule: Rule) -> Option<Rule>
     ensures { result ≡ cond (eqb (skip_blanks line.now next) (length line.now)) (Some rule) None }
 {
-    if skip_blanks(line, next) == line.len() {
-        Some(rule)
-    } else {
-        None
-    }
+    (skip_blanks(line, next) == line.len()).then_some(rule)
 }
 
 // The rule, from its topics on.
@@ -196,7 +180,7 @@ fn with_member(text: &[u8], p: usize, found: MemberPlaces) -> MemberPlaces
     }
 }
 
-// The members of the object at this place, if their names are plain.
+// The members of the object at this place, if their names are plain. A loop: each begins where the one before was read to, if it was.
 #[tactic(auto, using(crate::proofs::DecodeLaws::plain_bounds))]
 fn members_end(line: &[u8], at: usize) -> Option<Read<MemberPlaces>>
     ensures { IfSome result (λ r. members.MembersTo line.now at r.value r.next) }
@@ -225,8 +209,8 @@ fn members_end(line: &[u8], at: usize) -> Option<Read<MemberPlaces>>
 
 // Everyone, if the word `all` stands plain at this place, and the place behind it.
 #[tactic(auto, using(crate::proofs::DecodeLaws::plain_bounds))]
-fn everyone_end(line: &[u8], allow: bool, at: usize) -> Option<Read<Users>>
-    ensures { IfSome result (λ r. members.UsersTo line.now allow at r.value r.next) }
+fn everyone_end(line: &[u8], at: usize) -> Option<Read<Users>>
+    ensures { (allow : _) → IfSome result (λ r. members.UsersTo line.now allow at r.value r.next) }
 {
     let end = plain_text(line, at)?;
     match word_of(&line[at + 1..end])? {
@@ -258,7 +242,7 @@ pub fn users_end(line: &[u8], allow: bool, at: usize) -> Option<Read<Users>>
 {
     match kind_at(line, at) {
         Kind::Text => {
-            let everyone = everyone_end(line, allow, at);
+            let everyone = everyone_end(line, at);
             if everyone.is_some() {
                 everyone
             } else {
@@ -278,11 +262,12 @@ pub fn users_end(line: &[u8], allow: bool, at: usize) -> Option<Read<Users>>
     }
 }
 
-// The rule, from its users on.
-fn from_users(line: &[u8], allow: bool, at: usize) -> Option<Rule>
-    ensures { IfSome result (spec.FromUsers line.now allow at) }
+// The rule, from its users on: its access was read, up to them.
+fn from_users(line: &[u8], access: Read<bool>) -> Option<Rule>
+    ensures { IfSome result (spec.FromUsers line.now access.value access.next) }
 {
-    let users = users_end(line, allow, at)?;
+    let allow = access.value;
+    let users = users_end(line, allow, access.next)?;
     match separator(line, users.next, b']')? {
         Separator::Comma(next) => from_control(line, allow, users.value, next),
         Separator::Close(next) => at_end(
@@ -328,6 +313,5 @@ pub fn access_end(line: &[u8]) -> Option<Read<bool>>
 pub(crate) fn in_one_pass(line: &[u8]) -> Option<Rule>
     ensures { IfSome result (spec.IsRule line.now) }
 {
-    let access = access_end(line)?;
-    from_users(line, access.value, access.next)
+    from_users(line, access_end(line)?)
 }

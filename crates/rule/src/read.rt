@@ -1,9 +1,8 @@
 // A rule from its line, and a whole rule text.
-ghost use Rattle.std.specs.Prelude.{◌≡◌, ◌+◌, ◌≤◌, length, drop, option_and_then};
+ghost use Rattle.std.specs.Prelude.{◌≡◌, length, option_and_then};
 ghost use Rattle.json_text.specs.Json.{line_value};
 ghost use Rattle.json_text.specs.Access.{next_item};
 ghost use Rattle.json_text.specs.Lines.{lines};
-ghost use Rattle.rule.specs.Limits.{lines_limit};
 ghost use Rattle.rule.specs.Rule as rule;
 ghost use Rattle.rule.specs.RuleText as text_spec;
 ghost use Rattle.rule.specs.Places as spec;
@@ -14,7 +13,7 @@ use crate::topic_list::topics_at;
 use crate::words::{access_of, control_of, word_at};
 use crate::{Control, Fault, LINE, LINES, Parts, Refusal, Rule, TEXT, TOPICS};
 use json_text::access::{count_elements, first_element, next_item};
-use json_text::splitting::{count_lines, line_end};
+use json_text::splitting::{Lines, count_lines};
 use json_text::values::{check, skip_blanks};
 
 // The element behind one, if there is one.
@@ -125,17 +124,15 @@ const OVER_LINES: Fault = Fault {
     line: LINES + 1,
 };
 
-// What a faulty line, which begins at `at` behind `n` rules, is answered by: over 256 lines come first in document 01's order.
-fn faulty_line(text: &[u8], at: usize, n: usize, cause: Refusal) -> Fault
-    requires at_in_bounds { at ≤ length text.now }
-    requires n_le_lines_limit { n ≤ lines_limit }
-    ensures { result ≡ spec.faulty_line (n + length (lines (drop at text.now))) cause (n + 1) }
+// What a faulty line of a text is answered by: over 256 lines come first in document 01's order.
+#[tactic(auto, using(crate::proofs::ReadLaws::faulty_over, crate::proofs::ReadLaws::faulty_here))]
+fn faulty_line(text: &[u8], cause: Refusal, line: usize) -> Fault
+    ensures { result ≡ spec.faulty_line (length (lines text.now)) cause line }
 {
-    let most = LINES - n;
-    if most < count_lines(&text[at..], most) {
+    if LINES < count_lines(text, LINES) {
         return OVER_LINES;
     }
-    Fault { cause, line: n + 1 }
+    Fault { cause, line }
 }
 
 // The rules of a text, in one pass over its lines.
@@ -143,16 +140,13 @@ pub fn count_rules(text: &[u8]) -> Result<usize, Fault>
     ensures { result ≡ spec.rules_answer (length (lines text.now)) (text_spec.text_fault text.now) }
 {
     let mut n = 0;
-    let mut at = 0;
-    while at < text.len() {
+    for line in Lines::new(text) {
         if n == LINES {
             return Err(OVER_LINES);
         }
-        let end = line_end(text, at);
-        if let Err(cause) = read_rule(&text[at..end]) {
-            return Err(faulty_line(text, at, n, cause));
+        if let Err(cause) = read_rule(line) {
+            return Err(faulty_line(text, cause, n + 1));
         }
-        at = end + 1;
         n += 1;
     }
     Ok(n)

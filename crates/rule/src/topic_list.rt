@@ -1,13 +1,14 @@
 // The topics of a rule, one after the other: the place of an element says which it is.
 ghost use Rattle.std.specs.Prelude.{◌≡◌};
 ghost use Rattle.text.specs.Maybe.{bind};
+ghost use Rattle.json_text.specs.Access.{first_item};
 ghost use Rattle.rule.specs.Rule as rule;
 ghost use Rattle.rule.specs.Places as spec;
 
 use crate::listed::text_member;
 use crate::{TEXT, Topic};
 use json_text::Kind;
-use json_text::access::{first_element, kind_at, next_item, plain_text};
+use json_text::access::{Elements, kind_at, plain_text};
 use json_text::strings::decode;
 
 // "A text with `%u` or `%c` is a template." Most texts have no `%` at all.
@@ -24,7 +25,7 @@ fn has_mark(text: &[u8]) -> bool
     text::contains(text, b"%u") || text::contains(text, b"%c")
 }
 
-// The topic that a text at this place is: a template, or a valid filter; under `eq` it may be any text.
+// The topic that a text at this place is: a template, or a valid filter; under `eq` it may be any text. `eq` is what the line says.
 #[tactic(auto, unfolding(crate::specs::Places::text_topic, crate::specs::Places::placed_topic))]
 fn text_topic(text: &[u8], at: usize, eq: bool) -> Option<Topic>
     ensures { result ≡ spec.text_topic eq at text.now }
@@ -42,11 +43,7 @@ fn text_topic(text: &[u8], at: usize, eq: bool) -> Option<Topic>
     if eq {
         return Some(Topic::Eq(at));
     }
-    if topic::valid_filter(text) {
-        Some(Topic::Filter(at))
-    } else {
-        None
-    }
+    topic::valid_filter(text).then_some(Topic::Filter(at))
 }
 
 // The topic that the string at this place is. A plain one is tested as it stands.
@@ -73,22 +70,11 @@ pub fn topic_at(line: &[u8], at: usize) -> Option<Topic>
     }
 }
 
-// Is each element from this place on a topic?
-fn are_topics(line: &[u8], first: Option<usize>) -> bool
-    ensures { result ≡ spec.are_topics line.now first }
+// Is each element of the array at this place a topic?
+fn are_topics(line: &[u8], at: usize) -> bool
+    ensures { result ≡ spec.are_topics line.now (first_item 0x5b 0x5d line.now at) }
 {
-    let mut next = first;
-    // Each element takes a byte of the line at least, so none is left when the turns run out.
-    for _ in 0..line.len() {
-        let Some(p) = next else {
-            return true;
-        };
-        if topic_at(line, p).is_none() {
-            return false;
-        }
-        next = next_item(line, p);
-    }
-    true
+    Elements::new(line, at).all(|p| topic_at(line, p).is_some())
 }
 
 // Is the value at this place an array of topics?
@@ -96,7 +82,7 @@ pub fn topics_at(line: &[u8], at: usize) -> bool
     ensures { result ≡ spec.topics_here line.now at }
 {
     match kind_at(line, at) {
-        Kind::Array => are_topics(line, first_element(line, at)),
+        Kind::Array => are_topics(line, at),
         _ => false,
     }
 }

@@ -23,15 +23,11 @@ fn lower(b: u8) -> u8
 pub fn is_word(text: &[u8], word: &[u8]) -> bool
     ensures { result ≡ rule.is_word word.now text.now }
 {
-    if text.len() != word.len() {
-        return false;
-    }
-    for i in 0..text.len() {
-        if lower(text[i]) != word[i] {
-            return false;
-        }
-    }
-    true
+    text.len() == word.len()
+        && text
+            .iter()
+            .zip(word)
+            .all(|(&b, &letter)| lower(b) == letter)
 }
 
 // The word that the text is.

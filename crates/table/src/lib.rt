@@ -65,10 +65,9 @@ pub fn all_zero(bytes: &[u8]) -> bool
     }
     let last = n - STRETCH;
     let mut zero = true;
-    let mut i = 0;
-    while i < last {
+    for stretch in 0..last.div_ceil(STRETCH) {
+        let i = stretch * STRETCH;
         zero = zero & zero_part(&bytes[i..i + STRETCH]);
-        i += STRETCH;
     }
     zero & zero_part(&bytes[last..])
 }

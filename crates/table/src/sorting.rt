@@ -1,6 +1,7 @@
 // The no-repeat test. Few rows are compared each with all behind it. The numbers of many rows are sorted by the rows, and then each row
 // has to come before the next one in a strict order. That last step alone decides, and it is proved to: of the sort nothing is promised
 // but that it ends, and where it had not sorted, the rows would be compared each with all behind it. `distinct` alone calls this.
+// Numbers are sorted and not the rows, since the table is lent only to be read, and there is no heap for a copy.
 ghost use Rattle.std.specs.Prelude.{◌≡◌, true, false, ◌+◌, ◌*◌, ◌<◌, ◌≤◌, length};
 ghost use Rattle.text.specs.Text.{same as same_text};
 ghost use Rattle.table.specs.Table.{distinct as distinct_rows};
@@ -15,7 +16,7 @@ pub(crate) const FEW: usize = 64;
 
 pub(crate) const MANY: usize = 4096;
 
-// Each row with all behind it.
+// Each row with all behind it: a loop, which shortens `rest` with each row and so knows what is behind it.
 pub(crate) fn pairwise(table: &[u8], size: usize, used: usize) -> bool
     ensures { result ≡ distinct_rows same_text (bytes.rows size used table.now) }
 {
@@ -72,7 +73,8 @@ impl Rows<'_> {
         i != j && i < self.used && j < self.used && same_row(self.row(i), self.row(j))
     }
 
-    // As many rows as there are used ones, each one of these and before the next: no two are equal.
+    // As many rows as there are used ones, each one of these and before the next: no two are equal. Not `is_sorted_by`, which doesn't say
+    // between which two it failed: these may be equal.
     fn ascending(&self, order: &[u16]) -> bool
         requires some { 2 ≤ self.now.used }
         requires used_in_bounds { self.now.used ≤ length order.now }
@@ -128,9 +130,10 @@ impl Rows<'_> {
         let mut merged = [0u16; N];
         let order = &mut order[..self.used];
         let merged = &mut merged[..self.used];
-        for i in 0..self.used {
-            order[i] = i as u16;
+        for (i, n) in order.iter_mut().enumerate() {
+            *n = i as u16;
         }
+        // No count: the width of the runs grows fourfold.
         let mut width = 1;
         while width < self.used {
             self.merge_runs(order, merged, width);

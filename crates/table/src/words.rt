@@ -15,6 +15,7 @@ fn eight(s: &[u8], at: usize) -> u64
 pub(crate) fn before(a: &[u8], b: &[u8]) -> bool
     ensures { result ≡ true → spec.Before a.now b.now }
 {
+    // By places in both rows, which are as long; shorter ones have no word.
     let size = a.len();
     if size < 8 || b.len() != size {
         return false;
@@ -34,13 +35,15 @@ pub(crate) fn before(a: &[u8], b: &[u8]) -> bool
 fn differs(a: &[u8], b: &[u8]) -> bool
     ensures { result ≡ true → a.now ≡ b.now → ⊥ }
 {
+    a.len() != b.len() || (a.len() >= 8 && words_differ(a, b))
+}
+
+// Do some words of two rows differ, which are as long? By places in both: `zip` and `any` would take a closure with a contract.
+fn words_differ(a: &[u8], b: &[u8]) -> bool
+    requires { (length b.now ≡ length a.now) × (8 ≤ length a.now) }
+    ensures { result ≡ true → a.now ≡ b.now → ⊥ }
+{
     let size = a.len();
-    if b.len() != size {
-        return true;
-    }
-    if size < 8 {
-        return false;
-    }
     for i in 0..size / 8 {
         if eight(a, i * 8) != eight(b, i * 8) {
             return true;

@@ -58,9 +58,6 @@ unfolding same
 same_itself [] = refl
 same_itself (a ∷ s) = rw (eq-eqb a a refl) (same_itself s)
 
-pub same_false : (s t : List ℕ) → same s t ≡ false → s ≡ t → ⊥
-same_false s t e q = true≢false (sym (same_itself s) ∙ ap (same s) q ∙ e)
-
 pub same_unequal : (s t : List ℕ) → (s ≡ t → ⊥) → same s t ≡ false
 same_unequal s t h = isnt (same s t) (λ e. h (same_true s t e))
 

@@ -45,7 +45,8 @@ pub fn contains(text: &[u8], pattern: &[u8]) -> bool
     pattern.is_empty() || place(text, pattern).is_some()
 }
 
-// The next piece of a replacement, and what is left of the text: `new` for an occurrence, else the bytes before the next.
+// The next piece of a replacement, and what is left of the text: `new` for an occurrence, else the bytes before the next. It is called in
+// loops until nothing is left: for an iterator over the pieces their list would have to be defined, and tied to what `replace` promises.
 #[tactic(auto, using(crate::proofs::Laws::first_here, crate::proofs::Laws::replace_kept))]
 fn piece<'a>(text: &'a [u8], pattern: &[u8], new: &'a [u8]) -> (&'a [u8], &'a [u8])
     requires { 0 < length text.now }
@@ -83,11 +84,11 @@ pub fn paste(source: &[u8], buffer: &mut [u8], at: usize) -> bool
     ensures value { result ≡ spec.fits_at at source.now buffer.old }
     ensures buffer_after { buffer.new ≡ spec.pasted at source.now buffer.old }
 {
-    if buffer.len() < at || buffer.len() - at < source.len() {
-        return false;
+    let fits = at <= buffer.len() && source.len() <= buffer.len() - at;
+    if fits {
+        buffer[at..at + source.len()].copy_from_slice(source);
     }
-    buffer[at..at + source.len()].copy_from_slice(source);
-    true
+    fits
 }
 
 // Writes the text with `new` for each occurrence of the pattern to the front of the buffer, which has room for it.

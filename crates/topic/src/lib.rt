@@ -1,7 +1,7 @@
 // Topic filters: levels, validity, and the two ways of matching, T and P (document 01; document 02, b; topic.rs, trie.rs).
 #![tactic(auto)]
 
-ghost use Rattle.std.specs.Prelude.{◌≡◌, length};
+ghost use Rattle.std.specs.Prelude.{◌≡◌, ◌||◌, length};
 ghost use Rattle.topic.specs.Topic as spec;
 ghost use Rattle.topic.specs.Walk as places;
 
@@ -27,6 +27,7 @@ pub fn level_end(text: &[u8], at: usize) -> usize
 pub fn valid_filter(text: &[u8]) -> bool
     ensures { result ≡ spec.valid_filter text.now }
 {
+    // A `for`, since `starts` goes from byte to byte: `all` would take a closure that writes it.
     let mut starts = true;
     for (i, &b) in text.iter().enumerate() {
         if b == b'#' {
@@ -46,6 +47,13 @@ fn is_only(level: &[u8], b: u8) -> bool
     ensures { result ≡ spec.is_only b level.now }
 {
     matches!(level, [only] if *only == b)
+}
+
+// Is the level a wildcard?
+fn is_wildcard(level: &[u8]) -> bool
+    ensures { result ≡ (spec.is_plus level.now || spec.is_hash level.now) }
+{
+    is_only(level, b'+') || is_only(level, b'#')
 }
 
 // Does the level begin with `$`?
@@ -119,7 +127,7 @@ impl Walk {
     }
 }
 
-// Do the filter's levels take the checked text's? One level a turn.
+// Do the filter's levels take the checked text's? One level a turn, by a loop without a count: the step that finds the answer is the last.
 fn takes(filter: &[u8], text: &[u8]) -> bool
     ensures { result ≡ spec.takes (spec.levels filter.now) (spec.levels text.now) }
 {
@@ -141,11 +149,7 @@ fn takes(filter: &[u8], text: &[u8]) -> bool
 fn dollar_rule(filter: &[u8], text: &[u8]) -> bool
     ensures { result ≡ spec.dollar_rule (spec.levels filter.now) (spec.levels text.now) }
 {
-    if !is_metadata(text) {
-        return false;
-    }
-    let first = level_at(filter, 0);
-    is_only(first, b'+') || is_only(first, b'#')
+    is_metadata(text) && is_wildcard(level_at(filter, 0))
 }
 
 // Do the two differ at a byte up to which the filter has no wildcard? They then differ in the level of that byte, and T says no.
@@ -153,7 +157,7 @@ fn dollar_rule(filter: &[u8], text: &[u8]) -> bool
 pub fn begins_apart(filter: &[u8], text: &[u8]) -> bool
     ensures { result ≡ places.begins_apart filter.now text.now }
 {
-    // With `zip` each byte takes 12 instructions, with `i` 10.
+    // The first byte at which it is decided, by `i`: with `zip` each byte takes 12 instructions, so 10.
     for i in 0..filter.len().min(text.len()) {
         let b = filter[i];
         if b == b'+' || b == b'#' {
@@ -174,7 +178,8 @@ pub fn plain_match(filter: &[u8], text: &[u8]) -> bool
     !dollar_rule(filter, text) && takes(filter, text)
 }
 
-// Tree match T, by a caller who knows whether the checked text is a valid filter: if it is one, T is P.
+// Tree match T, by a caller who knows whether the checked text is a valid filter: if it is one, T is P. `valid` is what he found out, and
+// most hand on a value that is known only when they run.
 #[tactic(auto, using(crate::proofs::Places::match_known))]
 pub fn tree_match_known(filter: &[u8], text: &[u8], valid: bool) -> bool
     ensures { result ≡ spec.levels_match (spec.levels filter.now) (spec.levels_if valid text.now) }

@@ -1,54 +1,49 @@
 -- Each return has the first byte that is no digit, or four digits. Assumes nothing.
 use native.Mathlib.Omega.{arith}
 use mathlib.Core.Path.{refl, sym, ◌∙◌}
-use lib.ListN.{drop, length-drop}
 use Rattle.text.specs.Maybe.{bind}
 use Rattle.json_text.proofs.PieceLaws.{hex_most, hex4_by, hex4_short, digit_here, digit_first}
 use Rattle.json_text.proofs.strings.hex4.Goals as goal
 
-pub returns-then-line-at-lt4 : goal.returns-then-line-at-lt4
-returns-then-line-at-lt4 c =
-    sym (hex4_short (drop c.args.at c.args.line.now) (omega (arith, length-drop c.args.at c.args.line.now)))
+pub returns-in_default : goal.returns-in_default
+returns-in_default c =
+    sym (hex4_short c.args.bytes.now (omega arith))
 
 pub returns-in_err-a : goal.returns-in_err-a
 unfolding bind
 returns-in_err-a c =
-    let line = c.args.line.now in
-    let at = c.args.at in
-    c.from_residual.ensures ∙ sym (hex4_by (drop at line) (digit_first line at (omega arith) c.hex_digit.ensures c.in_err-a.was) refl refl refl)
+    let s = c.args.bytes.now in
+    c.from_residual.ensures ∙ sym (hex4_by s (digit_first s 0 (omega arith) c.hex_digit.ensures c.in_err-a.was) refl refl refl)
 
 pub returns-in_err-b : goal.returns-in_err-b
 unfolding bind
 returns-in_err-b c =
-    let line = c.args.line.now in
-    let at = c.args.at in
+    let s = c.args.bytes.now in
     c.from_residual-in_err-b.ensures
     ∙ sym
-    (hex4_by (drop at line) (digit_first line at (omega arith) c.hex_digit.ensures c.in_ok-a.was)
-    (digit_here line at 1 (omega arith) c.hex_digit-2.ensures c.in_err-b.was) refl refl)
+    (hex4_by s (digit_first s 0 (omega arith) c.hex_digit.ensures c.in_ok-a.was)
+    (digit_here s 0 1 (omega arith) c.hex_digit-2.ensures c.in_err-b.was) refl refl)
 
 pub returns-in_err-c : goal.returns-in_err-c
 unfolding bind
 returns-in_err-c c =
-    let line = c.args.line.now in
-    let at = c.args.at in
+    let s = c.args.bytes.now in
     c.from_residual-in_err-c.ensures
     ∙ sym
-    (hex4_by (drop at line) (digit_first line at (omega arith) c.hex_digit.ensures c.in_ok-a.was)
-    (digit_here line at 1 (omega arith) c.hex_digit-2.ensures c.in_ok-b.was)
-    (digit_here line at 2 (omega arith) c.hex_digit-3.ensures c.in_err-c.was) refl)
+    (hex4_by s (digit_first s 0 (omega arith) c.hex_digit.ensures c.in_ok-a.was)
+    (digit_here s 0 1 (omega arith) c.hex_digit-2.ensures c.in_ok-b.was)
+    (digit_here s 0 2 (omega arith) c.hex_digit-3.ensures c.in_err-c.was) refl)
 
 pub returns-in_err-d : goal.returns-in_err-d
 unfolding bind
 returns-in_err-d c =
-    let line = c.args.line.now in
-    let at = c.args.at in
+    let s = c.args.bytes.now in
     c.from_residual-in_err-d.ensures
     ∙ sym
-    (hex4_by (drop at line) (digit_first line at (omega arith) c.hex_digit.ensures c.in_ok-a.was)
-    (digit_here line at 1 (omega arith) c.hex_digit-2.ensures c.in_ok-b.was)
-    (digit_here line at 2 (omega arith) c.hex_digit-3.ensures c.in_ok-c.was)
-    (digit_here line at 3 (omega arith) c.hex_digit-4.ensures c.in_err-d.was))
+    (hex4_by s (digit_first s 0 (omega arith) c.hex_digit.ensures c.in_ok-a.was)
+    (digit_here s 0 1 (omega arith) c.hex_digit-2.ensures c.in_ok-b.was)
+    (digit_here s 0 2 (omega arith) c.hex_digit-3.ensures c.in_ok-c.was)
+    (digit_here s 0 3 (omega arith) c.hex_digit-4.ensures c.in_err-d.was))
 
 pub overflow_mul-result : goal.overflow_mul-result
 overflow_mul-result c =
@@ -88,10 +83,9 @@ overflow_add-result-3 c =
 pub returns : goal.returns
 unfolding bind
 returns c =
-    let line = c.args.line.now in
-    let at = c.args.at in
+    let s = c.args.bytes.now in
     sym
-    (hex4_by (drop at line) (digit_first line at (omega arith) c.hex_digit.ensures c.in_ok-a.was)
-    (digit_here line at 1 (omega arith) c.hex_digit-2.ensures c.in_ok-b.was)
-    (digit_here line at 2 (omega arith) c.hex_digit-3.ensures c.in_ok-c.was)
-    (digit_here line at 3 (omega arith) c.hex_digit-4.ensures c.in_ok-d.was))
+    (hex4_by s (digit_first s 0 (omega arith) c.hex_digit.ensures c.in_ok-a.was)
+    (digit_here s 0 1 (omega arith) c.hex_digit-2.ensures c.in_ok-b.was)
+    (digit_here s 0 2 (omega arith) c.hex_digit-3.ensures c.in_ok-c.was)
+    (digit_here s 0 3 (omega arith) c.hex_digit-4.ensures c.in_ok-d.was))

@@ -1,8 +1,6 @@
 -- Each return has the tests of `low_surrogate` that led there. Assumes nothing.
 use native.Mathlib.Omega.{arith}
 use mathlib.Core.Path.{sym, ap, ◌∙◌}
-use lib.ListN.{drop, length-drop}
-use lib.Seq.{drop-drop}
 use borrow.Author.Rules.{part_to_end}
 use Rattle.text.specs.Maybe.{bind}
 use Rattle.json_text.specs.Strings.{hex4}
@@ -12,44 +10,48 @@ use Rattle.json_text.proofs.strings.low_surrogate.Goals as goal
 
 pub returns-then-not-begins : goal.returns-then-not-begins
 returns-then-not-begins c =
-    sym (low_shut (drop c.args.at c.args.line.now) (sym (rw part_to_end at c.begins.ensures) ∙ c.if-not-begins.true))
+    sym (low_shut c.args.bytes.now (sym c.begins.ensures ∙ c.if-not-begins.true))
 
-pub hex4-requires : goal.hex4-requires
-hex4-requires c =
-    omega (arith, begins_two (drop c.args.at c.args.line.now) (sym (rw part_to_end at c.begins.ensures) ∙ c.if-not-begins.false), length-drop c.args.at c.args.line.now)
+pub slice_bounds-hex4-count : goal.slice_bounds-hex4-count
+slice_bounds-hex4-count c =
+    begins_two c.args.bytes.now (sym c.begins.ensures ∙ c.if-not-begins.false)
+
+pub slice_bounds-hex4-start : goal.slice_bounds-hex4-start
+slice_bounds-hex4-start c =
+    begins_two c.args.bytes.now (sym c.begins.ensures ∙ c.if-not-begins.false)
 
 pub returns-in_err-low : goal.returns-in_err-low
 unfolding bind
 returns-in_err-low c =
-    let s = drop c.args.at c.args.line.now in
+    let s = c.args.bytes.now in
     c.from_residual.ensures
     ∙ sym
-    (low_by s (sym (rw part_to_end at c.begins.ensures) ∙ c.if-not-begins.false)
-    (ap hex4 (drop-drop 2 c.args.at c.args.line.now) ∙ (sym c.hex4.ensures ∙ c.in_err-low.was)))
+    (low_by s (sym c.begins.ensures ∙ c.if-not-begins.false)
+    (ap hex4 (sym (part_to_end s 2)) ∙ (sym c.hex4.ensures ∙ c.in_err-low.was)))
 
 pub returns-in-56320-to-57343 : goal.returns-in-56320-to-57343
 unfolding bind
 returns-in-56320-to-57343 c =
-    let s = drop c.args.at c.args.line.now in
+    let s = c.args.bytes.now in
     sym
-    (low_by s (sym (rw part_to_end at c.begins.ensures) ∙ c.if-not-begins.false)
-    (ap hex4 (drop-drop 2 c.args.at c.args.line.now) ∙ (sym c.hex4.ensures ∙ c.in_ok-low.was))
+    (low_by s (sym c.begins.ensures ∙ c.if-not-begins.false)
+    (ap hex4 (sym (part_to_end s 2)) ∙ (sym c.hex4.ensures ∙ c.in_ok-low.was))
     ∙ rw (within 0xdc00 0xdfff c.in_ok-low.low (omega arith) (omega arith)))
 
 pub returns-in_default : goal.returns-in_default
 unfolding bind
 returns-in_default c =
-    let s = drop c.args.at c.args.line.now in
+    let s = c.args.bytes.now in
     sym
-    (low_by s (sym (rw part_to_end at c.begins.ensures) ∙ c.if-not-begins.false)
-    (ap hex4 (drop-drop 2 c.args.at c.args.line.now) ∙ (sym c.hex4.ensures ∙ c.in_ok-low.was))
+    (low_by s (sym c.begins.ensures ∙ c.if-not-begins.false)
+    (ap hex4 (sym (part_to_end s 2)) ∙ (sym c.hex4.ensures ∙ c.in_ok-low.was))
     ∙ rw (outside 0xdc00 0xdfff c.in_ok-low.low (λ h k. omega arith)))
 
 pub returns-in_default-2 : goal.returns-in_default-2
 unfolding bind
 returns-in_default-2 c =
-    let s = drop c.args.at c.args.line.now in
+    let s = c.args.bytes.now in
     sym
-    (low_by s (sym (rw part_to_end at c.begins.ensures) ∙ c.if-not-begins.false)
-    (ap hex4 (drop-drop 2 c.args.at c.args.line.now) ∙ (sym c.hex4.ensures ∙ c.in_ok-low.was))
+    (low_by s (sym c.begins.ensures ∙ c.if-not-begins.false)
+    (ap hex4 (sym (part_to_end s 2)) ∙ (sym c.hex4.ensures ∙ c.in_ok-low.was))
     ∙ rw (outside 0xdc00 0xdfff c.in_ok-low.low (λ h k. omega arith)))

@@ -1,10 +1,11 @@
 -- Each return has the tests of `piece_of` that led there. Assumes nothing.
 use native.Mathlib.Omega.{arith}
 use mathlib.Core.Path.{refl, sym, ap, ◌∙◌}
-use Prim.Native.Nat.{ℕ}
+use Prim.Native.Nat.{ℕ, ◌+◌}
 use lib.Dec.{eqb, ltb}
 use lib.ListN.{drop, drop_of_length-le}
 use lib.Seq.{drop-drop}
+use borrow.Author.Rules.{part_to_end}
 use Rattle.json_text.proofs.Utf8Laws.{byte_first, sequence_ascii}
 use Rattle.json_text.proofs.PieceLaws.{piece_by, piece_nothing, raw_by}
 use Rattle.json_text.specs.Strings.{quote, backslash, escape, piece_of}
@@ -24,7 +25,7 @@ returns-in-34 c =
 pub returns-in-92 : goal.returns-in-92
 returns-in-92 c =
     let s = drop c.args.at c.args.line.now in
-    c.escape_at.ensures ∙ (sym (ap escape (drop-drop 1 c.args.at c.args.line.now)) ∙ sym (piece_by s (ap (λ (b : ℕ). eqb b quote) (byte_first c.args.line.now c.args.at (omega arith) ∙ c.in-92.is)) (ap (λ (b : ℕ). eqb b backslash) (byte_first c.args.line.now c.args.at (omega arith)) ∙ eq-eqb _ _ c.in-92.is) refl))
+    c.escape.ensures ∙ (ap escape (part_to_end c.args.line.now (c.args.at + 1)) ∙ (sym (ap escape (drop-drop 1 c.args.at c.args.line.now)) ∙ sym (piece_by s (ap (λ (b : ℕ). eqb b quote) (byte_first c.args.line.now c.args.at (omega arith) ∙ c.in-92.is)) (ap (λ (b : ℕ). eqb b backslash) (byte_first c.args.line.now c.args.at (omega arith)) ∙ eq-eqb _ _ c.in-92.is) refl)))
 
 pub returns-in-0-to-31 : goal.returns-in-0-to-31
 returns-in-0-to-31 c =

@@ -1,17 +1,15 @@
 -- The answers of the cycle of calls {bracket, item, items, value}: each return has the tests of the definition that led there. Assumes nothing.
 use Rattle.std.specs.Prelude.{Some}
+use mathlib.Core.Path.{◌≡◌}
+use mathlib.Core.Logic.{⊎_elim}
 use Rattle.std.proofs.Common.{ℕ, ◌+◌, sym, ap, ◌∙◌, refl, arith}
-use Rattle.json_text.specs.Json.{kind_of, value_at, separator_at, is_at, longest}
-use Rattle.json_text.specs.Access.{stepped}
-use Rattle.json_text.proofs.ScanLaws.{byte_here, comma_next}
-use Rattle.json_text.proofs.ValueLaws.{step_behind, step_on, value_past, inner_none, inner_some, step_opened, step_as, value_step, step_from, itemized_all, itemized_past, itemized_step, item_next, closing_within, bracket_step, bracket_past, value_on, member_step, element_step}
+use Rattle.json_text.specs.Json.{value_at, separator_at, is_at, longest}
+use Rattle.json_text.specs.Access.{stepped, kind_at}
+use Rattle.json_text.proofs.ScanLaws.{comma_next}
+use Rattle.json_text.proofs.ValueLaws.{step_behind, step_on, inner_none, inner_some, step_opened, step_as, value_step, step_from, itemized_all, itemized_past, itemized_step, item_next, closing_within, bracket_step, bracket_past, value_on, member_step, element_step}
 use Rattle.json_text.specs.declared.Cursor.{Cursor}
 use Rattle.json_text.proofs.values.+bracket_item_items_value.Goals as goal
 use Rattle.json_text.proofs.values.+bracket_item_items_value.Goals.{item-then-object+in_ok-start, item-else-object}
-
-pub bracket-returns-then-line-at : goal.bracket-returns-then-line-at
-bracket-returns-then-line-at t c =
-    sym (bracket_past c.args.depth c.args.line.now c.args.object c.args.c.longest c.args.c.at c.if-line-at.true)
 
 pub bracket-overflow_add-result : goal.bracket-overflow_add-result
 bracket-overflow_add-result t c =
@@ -127,88 +125,79 @@ items-returns t c =
     let cursor = c.loop-cursor.cursor in
     sym (itemized_past a.depth a.line.now a.object cursor.longest cursor.at c.loop-cursor-test.false) ∙ c.loop-cursor.invariant
 
-pub value-returns-then-line-at : goal.value-returns-then-line-at
-unfolding stepped
-value-returns-then-line-at t c =
-    rw (value_past c.args.depth c.args.line.now c.args.c.at c.if-line-at.true)
-
-pub value-returns-then-depth-eq0 : goal.value-returns-then-depth-eq0
-unfolding step_as step_opened
-value-returns-then-depth-eq0 t c =
-    let a = c.args in
-    sym
-    (value_step a.depth a.line.now a.c.longest a.c.at
-    (ap kind_of (byte_here a.line.now a.c.at c.if-line-at.false) ∙ (sym c.kind_of.ensures ∙ c.in-Array.is))
-    (inner_none a.depth a.line.now c.if-depth-eq0.true))
-
-pub value-returns-then-depth-eq0-2 : goal.value-returns-then-depth-eq0-2
-unfolding step_as step_opened
-value-returns-then-depth-eq0-2 t c =
-    let a = c.args in
-    sym
-    (value_step a.depth a.line.now a.c.longest a.c.at
-    (ap kind_of (byte_here a.line.now a.c.at c.if-line-at.false) ∙ (sym c.kind_of.ensures ∙ c.in-Object.is))
-    (inner_none a.depth a.line.now c.if-depth-eq0-2.true))
-
 pub value-returns-in-Number : goal.value-returns-in-Number
-unfolding step_as step_opened
+unfolding step_as step_opened kind_at
 value-returns-in-Number t c =
     let a = c.args in
     c.number.ensures
     ∙ sym
     (value_step a.depth a.line.now a.c.longest a.c.at
-    (ap kind_of (byte_here a.line.now a.c.at c.if-line-at.false) ∙ (sym c.kind_of.ensures ∙ c.in-Number.is)) refl)
+    ((sym c.kind_at.ensures ∙ c.in-Number.is)) refl)
 
 pub value-returns-in-Text : goal.value-returns-in-Text
-unfolding step_as step_opened
+unfolding step_as step_opened kind_at
 value-returns-in-Text t c =
     let a = c.args in
     c.string.ensures
     ∙ sym
     (value_step a.depth a.line.now a.c.longest a.c.at
-    (ap kind_of (byte_here a.line.now a.c.at c.if-line-at.false) ∙ (sym c.kind_of.ensures ∙ c.in-Text.is)) refl)
-
-pub value-returns-else-depth-eq0 : goal.value-returns-else-depth-eq0
-unfolding step_as step_opened
-value-returns-else-depth-eq0 t c =
-    let a = c.args in
-    c.bracket.ensures
-    ∙ sym
-    (value_step a.depth a.line.now a.c.longest a.c.at
-    (ap kind_of (byte_here a.line.now a.c.at c.if-line-at.false) ∙ (sym c.kind_of.ensures ∙ c.in-Array.is))
-    (inner_some a.depth a.line.now c.if-depth-eq0.false))
-
-pub value-returns-else-depth-eq0-2 : goal.value-returns-else-depth-eq0-2
-unfolding step_as step_opened
-value-returns-else-depth-eq0-2 t c =
-    let a = c.args in
-    c.bracket-in-Object.ensures
-    ∙ sym
-    (value_step a.depth a.line.now a.c.longest a.c.at
-    (ap kind_of (byte_here a.line.now a.c.at c.if-line-at.false) ∙ (sym c.kind_of.ensures ∙ c.in-Object.is))
-    (inner_some a.depth a.line.now c.if-depth-eq0-2.false))
+    ((sym c.kind_at.ensures ∙ c.in-Text.is)) refl)
 
 pub value-returns-in-Word : goal.value-returns-in-Word
-unfolding step_as step_opened
+unfolding step_as step_opened kind_at
 value-returns-in-Word t c =
     let a = c.args in
     c.word.ensures
     ∙ sym
     (value_step a.depth a.line.now a.c.longest a.c.at
-    (ap kind_of (byte_here a.line.now a.c.at c.if-line-at.false) ∙ (sym c.kind_of.ensures ∙ c.in-Word.is)) refl)
+    ((sym c.kind_at.ensures ∙ c.in-Word.is)) refl)
 
+-- no value begins so
 pub value-returns-in-Blank : goal.value-returns-in-Blank
-unfolding step_as step_opened
+unfolding step_as step_opened kind_at
 value-returns-in-Blank t c =
     let a = c.args in
-    sym
-    (value_step a.depth a.line.now a.c.longest a.c.at
-    (ap kind_of (byte_here a.line.now a.c.at c.if-line-at.false) ∙ (sym c.kind_of.ensures ∙ c.in-Blank.is)) refl)
+    ⊎_elim
+    (λ e. sym (value_step a.depth a.line.now a.c.longest a.c.at (sym c.kind_at.ensures ∙ e) refl))
+    (λ e. sym (value_step a.depth a.line.now a.c.longest a.c.at (sym c.kind_at.ensures ∙ e) refl))
+    c.in-Blank.is
 
-pub value-returns-in-Other : goal.value-returns-in-Other
-unfolding step_as step_opened
-value-returns-in-Other t c =
+pub bracket-returns-then-line-c : goal.bracket-returns-then-line-c
+bracket-returns-then-line-c t c =
+    sym (bracket_past c.args.depth c.args.line.now c.args.object c.args.c.longest c.args.c.at c.if-line-c.true)
+
+pub value-returns-in_err-inside-in-Array : goal.value-returns-in_err-inside-in-Array
+unfolding step_as step_opened kind_at
+value-returns-in_err-inside-in-Array t c =
     let a = c.args in
-    sym
-    (value_step a.depth a.line.now a.c.longest a.c.at
-    (ap kind_of (byte_here a.line.now a.c.at c.if-line-at.false) ∙ (sym c.kind_of.ensures ∙ c.in-Other.is)) refl)
+    let none : a.depth ≡ 0 = omega (arith, c.in_err-inside-in-Array.ensures) in
+    c.from_residual.ensures
+    ∙ sym (value_step a.depth a.line.now a.c.longest a.c.at (sym c.kind_at.ensures ∙ c.in-Array.is) (inner_none a.depth a.line.now none))
+
+pub value-returns-in_ok-inside-in-Array : goal.value-returns-in_ok-inside-in-Array
+unfolding step_as step_opened kind_at
+value-returns-in_ok-inside-in-Array t c =
+    let a = c.args in
+    let told = c.in_ok-inside-in-Array.ensures in
+    c.bracket.ensures
+    ∙ sym
+    (value_step a.depth a.line.now a.c.longest a.c.at (sym c.kind_at.ensures ∙ c.in-Array.is)
+    (inner_some a.depth a.line.now (λ e. omega (arith, told.0)) ∙ ap (λ (d : ℕ). Some (value_at d a.line.now)) (sym told.1)))
+
+pub value-returns-in_err-inside-in-Object : goal.value-returns-in_err-inside-in-Object
+unfolding step_as step_opened kind_at
+value-returns-in_err-inside-in-Object t c =
+    let a = c.args in
+    let none : a.depth ≡ 0 = omega (arith, c.in_err-inside-in-Object.ensures) in
+    c.from_residual-in_err-inside-in-Object.ensures
+    ∙ sym (value_step a.depth a.line.now a.c.longest a.c.at (sym c.kind_at.ensures ∙ c.in-Object.is) (inner_none a.depth a.line.now none))
+
+pub value-returns-in_ok-inside-in-Object : goal.value-returns-in_ok-inside-in-Object
+unfolding step_as step_opened kind_at
+value-returns-in_ok-inside-in-Object t c =
+    let a = c.args in
+    let told = c.in_ok-inside-in-Object.ensures in
+    c.bracket-in-Object.ensures
+    ∙ sym
+    (value_step a.depth a.line.now a.c.longest a.c.at (sym c.kind_at.ensures ∙ c.in-Object.is)
+    (inner_some a.depth a.line.now (λ e. omega (arith, told.0)) ∙ ap (λ (d : ℕ). Some (value_at d a.line.now)) (sym told.1)))

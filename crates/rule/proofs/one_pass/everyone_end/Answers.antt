@@ -6,6 +6,6 @@ use Rattle.rule.proofs.OnePassLaws.{all_users}
 use Rattle.rule.proofs.one_pass.everyone_end.Goals as goal
 
 pub returns-in-All : goal.returns-in-All
-returns-in-All c =
-    all_users c.args.line.now c.args.allow c.args.at (plain_string c.args.line.now c.args.at (sym c.in_ok-end.ensures))
+returns-in-All c allow =
+    all_users c.args.line.now allow c.args.at (plain_string c.args.line.now c.args.at (sym c.in_ok-end.ensures))
     (sym c.in_ok-word_of.ensures ∙ ap Some c.in-All.is)

@@ -7,7 +7,7 @@ use Rattle.rule.specs.Members.{MembersTo}
 use Rattle.rule.proofs.one_pass.users_end.Goals as goal
 
 pub returns-then-is_some : goal.returns-then-is_some
-returns-then-is_some c = users_there c.args.line.now c.args.allow c.args.at _ c.everyone_end-everyone.ensures (sym c.is_some.ensures ∙ c.if-is_some.true)
+returns-then-is_some c = users_there c.args.line.now c.args.allow c.args.at _ (c.everyone_end-everyone.ensures c.args.allow) (sym c.is_some.ensures ∙ c.if-is_some.true)
 
 pub returns-in_err-users_of-in-Object : goal.returns-in_err-users_of-in-Object
 unfolding told_to

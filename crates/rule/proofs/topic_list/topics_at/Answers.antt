@@ -1,12 +1,11 @@
 -- Each return has the kind of the value. Assumes nothing.
-use mathlib.Core.Path.{sym, ap, ◌∙◌}
+use mathlib.Core.Path.{sym, ◌∙◌}
 use Rattle.rule.proofs.TopicLaws.{topics_array, topics_other}
-use Rattle.rule.specs.Places.{are_topics}
 use Rattle.rule.proofs.topic_list.topics_at.Goals as goal
 
 pub returns-in-Array : goal.returns-in-Array
 returns-in-Array c =
-    c.are_topics.ensures ∙ (ap (are_topics c.args.line.now) c.first_element.ensures ∙ topics_array c.args.line.now c.args.at (sym c.kind_at.ensures ∙ c.in-Array.is))
+    c.are_topics.ensures ∙ (topics_array c.args.line.now c.args.at (sym c.kind_at.ensures ∙ c.in-Array.is))
 
 pub returns-in_default : goal.returns-in_default
 returns-in_default c =
