@@ -29,6 +29,7 @@ pub fn next_topic(rules: &[u8], at: usize, topic: usize) -> Option<usize>
     next_item(line_at(rules, at), topic)
 }
 
+// What filling a template comes to. `eq` is a value, whether the topic stands under `eq`, and not a switch.
 #[tactic(auto, unfolding(crate::specs::Templates::filled_as))]
 fn filled_as(eq: bool, filling: Option<usize>) -> FilledTopic
     ensures { result ≡ spec.filled_as eq filling }

@@ -21,13 +21,13 @@ loop-init c =
 
 pub returns-in-TooLong : goal.returns-in-TooLong
 returns-in-TooLong c =
-    over_found _ _ _ _ (length c.args.rules.now - c.loop.counter) c.requires refl (omega arith) c.in-Some.is
+    over_found _ _ _ _ (length c.args.rules.now - c.loop.counter) c.args.who.short refl (omega arith) c.in-Some.is
     c.fill_topic.ensures.value c.loop.invariant (over_is c.in-TooLong.is)
 
 pub loop-preserved : goal.loop-preserved
 loop-preserved c =
     let turns : length c.args.rules.now - c.loop.counter - 1 ≡ length c.args.rules.now - (c.loop.counter + 1) = omega arith in
-    rw (← turns) (over_onward _ _ _ _ (length c.args.rules.now - c.loop.counter) c.requires refl (omega arith) c.in-Some.is
+    rw (← turns) (over_onward _ _ _ _ (length c.args.rules.now - c.loop.counter) c.args.who.short refl (omega arith) c.in-Some.is
     c.fill_topic.ensures.value c.loop.invariant (over_not _ c.in_default-fill_topic.not-TooLong) c.next_topic-next.ensures)
 
 pub loop-at-smaller : goal.loop-at-smaller

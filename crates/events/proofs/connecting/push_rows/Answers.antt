@@ -27,20 +27,20 @@ loop-init c =
 pub overflow_add-used : goal.overflow_add-used
 overflow_add-used c =
     let row = topic_row c.args.table c.args.who.session c.args.who.id.now (option_copied c.args.who.name) c.args.rules.now c.args.earlier c.args.part.now c.loop-at.rule c.loop-at.at (replicate 256 0)
-    c.loop.invariant (omega arith) c.in-Some.is c.requires.id_len_bound (length-replicate {A = ℕ} 256 0) c.fill_topic-topic.ensures.value c.fill_topic-topic.ensures.buffer_after c.next_topic-next.ensures in
+    c.loop.invariant (omega arith) c.in-Some.is c.args.who.short (length-replicate {A = ℕ} 256 0) c.fill_topic-topic.ensures.value c.fill_topic-topic.ensures.buffer_after c.next_topic-next.ensures in
     omega (arith, row_room _ _ _ _ _ _ _ row (c.push_topic.ensures.value, c.push_topic.ensures.part_after) c.push_topic.auto.part (topic_long _ _ _ _ _ _) c.in-Added.is)
 
 pub returns-in-Full : goal.returns-in-Full
 returns-in-Full c =
     let row = topic_row c.args.table c.args.who.session c.args.who.id.now (option_copied c.args.who.name) c.args.rules.now c.args.earlier c.args.part.now c.loop-at.rule c.loop-at.at (replicate 256 0)
-    c.loop.invariant (omega arith) c.in-Some.is c.requires.id_len_bound (length-replicate {A = ℕ} 256 0) c.fill_topic-topic.ensures.value c.fill_topic-topic.ensures.buffer_after c.next_topic-next.ensures in
+    c.loop.invariant (omega arith) c.in-Some.is c.args.who.short (length-replicate {A = ℕ} 256 0) c.fill_topic-topic.ensures.value c.fill_topic-topic.ensures.buffer_after c.next_topic-next.ensures in
     let whole = row_full _ _ _ _ _ _ _ row (c.push_topic.ensures.value, c.push_topic.ensures.part_after) c.push_topic.auto.part c.in-Full.is in
     record { value = whole.0; part_after = whole.1 }
 
 pub loop-preserved : goal.loop-preserved
 loop-preserved c =
     let row = topic_row c.args.table c.args.who.session c.args.who.id.now (option_copied c.args.who.name) c.args.rules.now c.args.earlier c.args.part.now c.loop-at.rule c.loop-at.at (replicate 256 0)
-    c.loop.invariant (omega arith) c.in-Some.is c.requires.id_len_bound (length-replicate {A = ℕ} 256 0) c.fill_topic-topic.ensures.value c.fill_topic-topic.ensures.buffer_after c.next_topic-next.ensures in
+    c.loop.invariant (omega arith) c.in-Some.is c.args.who.short (length-replicate {A = ℕ} 256 0) c.fill_topic-topic.ensures.value c.fill_topic-topic.ensures.buffer_after c.next_topic-next.ensures in
     let turns : length c.args.rules.now - c.loop.counter - 1 ≡ length c.args.rules.now - (c.loop.counter + 1) = omega arith in
     elim c.match-push_topic.branch [
       | in-Present w ↦ rw (w.used-is, ← turns) (row_present _ _ _ _ _ _ _ row (c.push_topic.ensures.value, c.push_topic.ensures.part_after) c.push_topic.auto.part w.in-Present.is)
