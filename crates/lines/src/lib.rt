@@ -3,6 +3,7 @@
 #![tactic(auto)]
 
 pub mod answer;
+mod array;
 mod asking;
 pub mod client;
 mod elements;
