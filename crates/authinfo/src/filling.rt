@@ -1,4 +1,5 @@
-// A rule's topic, filled for the client and held against the asked one.
+// A rule's topic, filled for the client and held against the asked one. `eq`, whether it stands under `eq`, is a part of it as in the specs'
+// record, not a switch: it is handed on, and `taken` alone looks at it.
 ghost use Rattle.std.specs.Prelude.{◌≡◌, ◌+◌, ◌≤◌, length, Some};
 ghost use Rattle.json_text.specs.Strings.{string_at};
 ghost use Rattle.authinfo.specs.ClientRule as rule;
@@ -36,7 +37,7 @@ fn taken(filled: &[u8], eq: bool, topic: &[u8]) -> Result<bool, Refusal>
     Ok(topic::plain_match(filled, topic))
 }
 
-// The text, with the client id for `${clientid}` where the configured topic held it.
+// The text, with the client id for `${clientid}` where the configured topic held it. `held` is what was seen before a user name was put in.
 fn with_id(before: &[u8], held: bool, eq: bool, id: &[u8], topic: &[u8]) -> Result<bool, Refusal>
     ensures { result ≡ spec.taken_by topic.now (rule.filled_topic eq (Some (spec.id_put held id.now before.now))) }
 {

@@ -57,7 +57,7 @@ fn qos_at(line: &[u8], at: Option<usize>, asked: u64) -> Option<bool>
     }
 }
 
-// Does a rule's retain, by its permission, take a publish that is retained or not?
+// Does a rule's retain, by its permission, take a publish that is retained or not? All three are values, the rule's and the question's.
 #[tactic(auto, unfolding(crate::specs::Decision::publish_retain))]
 fn takes_retain(allow: bool, retain: Option<bool>, retained: bool) -> bool
     ensures { result ≡ decision.publish_retain allow retain retained }

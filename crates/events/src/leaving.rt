@@ -1,4 +1,5 @@
-// Disconnected and session end: the rows that pass a test are removed through their table's stretch.
+// Disconnected and session end: the rows that pass a test are removed through their table's stretch. The arguments come one by one, as the C
+// interface hands them over.
 ghost use Rattle.std.specs.Prelude.{◌≡◌, ◌&&◌, length};
 ghost use Rattle.topic.specs.Topic as filters;
 ghost use Rattle.table.specs.Table.{some_row};

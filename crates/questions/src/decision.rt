@@ -1,5 +1,6 @@
 // The decision on a rule text and used rows (document 01, Plugin decisions). Total: a line that is no rule agrees with nothing, and rows are
-// the whole rows of their part.
+// the whole rows of their part. `rule_agrees` and `deciding_rule` are public and take these parts and the question's one by one, so the functions
+// below them do.
 ghost use Rattle.std.specs.Prelude.{◌≡◌, true, length, IfSome};
 ghost use Rattle.topic.specs.Topic.{valid_filter};
 ghost use Rattle.json_text.specs.Access.{first_item};
