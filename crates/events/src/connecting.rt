@@ -12,9 +12,9 @@ ghost use Rattle.events.specs.Event as event;
 ghost use Rattle.events.specs.Templates as templates;
 ghost use Rattle.events.specs.Pushes as spec;
 
-use crate::templates::{fill_topic, first_topic, next_topic};
+use crate::templates::{fill_in, topics};
 use crate::{FilledTopic, Table};
-use json_text::splitting::next_line;
+use json_text::splitting::Lines;
 use rule::{ID, Refusal, TEXT};
 use store::rows::{put_filter, put_numbered};
 use store::{Counts, SESSIONS, Shape, check};
@@ -81,8 +81,7 @@ fn push_topic(
     }
 }
 
-// Pushes the rows that the event has for one table, whose used rows are `earlier`. The lines are gone over by their offsets, not by `Lines`:
-// `first_topic`, `fill_topic` and `next_topic` are public, and take a line by its offset in the rule text.
+// Pushes the rows that the event has for one table, whose used rows are `earlier`.
 fn push_rows(
     part: &mut [u8],
     rules: &[u8],
@@ -97,17 +96,10 @@ fn push_rows(
 {
     let mut used = earlier;
     let mut rule = 0;
-    let mut at = 0;
-    while at < rules.len() {
-        let mut next = first_topic(rules, at);
-        // Each topic takes a byte of the text at least, so there are no more than bytes.
-        for _ in 0..rules.len() {
-            let Some(p) = next else {
-                break;
-            };
+    for line in Lines::new(rules) {
+        for p in topics(line) {
             let mut text = [0u8; TEXT];
-            let topic = fill_topic(rules, at, p, who.id, who.name, &mut text);
-            next = next_topic(rules, at, p);
+            let topic = fill_in(line, p, who.id, who.name, &mut text);
             match push_topic(part, used, table, rule, who, topic, &text) {
                 Pushed::Present => {}
                 Pushed::Added => {
@@ -118,7 +110,6 @@ fn push_rows(
                 }
             }
         }
-        at = next_line(rules, at);
         rule += 1;
     }
     Some(used)
@@ -145,29 +136,29 @@ fn push_all(store: &mut [u8], shape: Shape, table: Table, who: Connecting) -> Op
     )
 }
 
-// "7 a text over 256 after both replacements": is there one? The walk is that of `push_rows`. One walk for both would take what to do with
-// a text as a closure, and its contract with the state between two calls is longer than these loops. `return true` leaves both loops at once,
-// which no chain of tests does.
+// Is the topic at this place a template whose text is over 256, filled for the client?
+fn topic_over(line: &[u8], topic: usize, who: Connecting) -> bool
+    ensures { result ≡ templates.topic_over who.entry.id.now (option_copied who.entry.name) line.now topic }
+{
+    let mut text = [0u8; TEXT];
+    matches!(
+        fill_in(line, topic, who.id, who.name, &mut text),
+        FilledTopic::TooLong
+    )
+}
+
+// Is one of a line's?
+fn line_over(line: &[u8], who: Connecting) -> bool
+    ensures { result ≡ templates.line_over who.entry.id.now (option_copied who.entry.name) line.now }
+{
+    topics(line).any(|p| topic_over(line, p, who))
+}
+
+// "7 a text over 256 after both replacements": is there one?
 fn over_filled(rules: &[u8], who: Connecting) -> bool
     ensures { result ≡ templates.over_filled rules.now who.entry.id.now (option_copied who.entry.name) }
 {
-    let mut at = 0;
-    while at < rules.len() {
-        let mut next = first_topic(rules, at);
-        // As many topics as may come, as in `push_rows`.
-        for _ in 0..rules.len() {
-            let Some(p) = next else {
-                break;
-            };
-            let mut text = [0u8; TEXT];
-            if let FilledTopic::TooLong = fill_topic(rules, at, p, who.id, who.name, &mut text) {
-                return true;
-            }
-            next = next_topic(rules, at, p);
-        }
-        at = next_line(rules, at);
-    }
-    false
+    Lines::new(rules).any(|line| line_over(line, who))
 }
 
 // Puts back the three tables to the rows used earlier: these many filter, eq and note rows are used now.
