@@ -4,7 +4,7 @@ use mathlib.Core.Path.{refl, sym, ap, ◌∙◌}
 use borrow.Author.Tests.{lt-ltb, le-ltb}
 use Rattle.authinfo.specs.Decision.{Client, qos_limit}
 use Rattle.authinfo.specs.Places.{qos_of_asked, for_client, unless_fault}
-use Rattle.authinfo.proofs.ReadingLaws.{passed_on}
+use Rattle.text.proofs.TryLaws.{passed_on}
 use Rattle.authinfo.proofs.AskLaws.{many_lines, few_lines, name_fits, fault_by, deciding_by, superuser_allowed, others_decided}
 use Rattle.authinfo.proofs.ask.deciding.Goals as goal
 

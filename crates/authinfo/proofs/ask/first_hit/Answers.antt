@@ -8,7 +8,8 @@ use lib.ListN.{length}
 use Rattle.json_text.specs.Lines.{lines}
 use Rattle.json_text.proofs.LineLaws.{lines_most}
 use Rattle.authinfo.specs.Places.{question_of}
-use Rattle.authinfo.proofs.ReadingLaws.{passed_on, mapped_err, mapped_ok}
+use Rattle.text.proofs.TryLaws.{passed_on}
+use Rattle.authinfo.proofs.ReadingLaws.{mapped_err, mapped_ok}
 use Rattle.authinfo.proofs.AskLaws.{from, on_line, on_line_lem, from_first}
 use Rattle.authinfo.proofs.ask.first_hit.Goals as goal
 

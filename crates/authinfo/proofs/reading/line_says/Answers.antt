@@ -5,7 +5,8 @@ use Rattle.json_text.specs.Json.{skip_blanks}
 use Rattle.rule.specs.declared.Refusal.TheVariants.{NotJson}
 use Rattle.authinfo.specs.Places.{question_of, places_at}
 use Rattle.authinfo.specs.OnePass.{parts_at, LineTo}
-use Rattle.authinfo.proofs.ReadingLaws.{missing, there, short_line, long_says, invalid_says, over_says, valid_says, tells_short, tells_says, passed_short, passed_says}
+use Rattle.text.proofs.TryLaws.{missing, there}
+use Rattle.authinfo.proofs.ReadingLaws.{short_line, long_says, invalid_says, over_says, valid_says, tells_short, tells_says, passed_short, passed_says}
 use Rattle.authinfo.proofs.reading.line_says.Goals as goal
 
 pub returns-then-line-gt-LINE : goal.returns-then-line-gt-LINE

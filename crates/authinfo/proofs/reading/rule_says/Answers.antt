@@ -6,7 +6,8 @@ use Rattle.rule.specs.Members.{truth_from}
 use Rattle.rule.specs.declared.Refusal.TheVariants.{NotARule}
 use Rattle.authinfo.specs.Places.{takes_kind, verdict, topic_from, by_topic, with_qos, with_action, with_permission}
 use Rattle.authinfo.specs.OnePass.{quote_at}
-use Rattle.authinfo.proofs.ReadingLaws.{passed_on, missing, there, parts_by, qos_asked_lem}
+use Rattle.text.proofs.TryLaws.{passed_on, missing, there}
+use Rattle.authinfo.proofs.ReadingLaws.{parts_by, qos_asked_lem}
 use Rattle.authinfo.proofs.reading.rule_says.Goals as goal
 use Rattle.authinfo.proofs.reading.rule_says.Goals.{then-level, else-level, then-kind, else-kind}
 

@@ -8,7 +8,7 @@ use lib.ListN.{length}
 use lib.Seq.{length-take-le}
 use Rattle.store.specs.Store.{store_length}
 use Rattle.store.specs.Layout.{filters_at, eqs_at, notes_at}
-use Rattle.store.proofs.OpenLaws.{missing}
+use Rattle.text.proofs.TryLaws.{missing}
 use Rattle.store.proofs.PartLaws.{shaped_told, bounds_told}
 use Rattle.events.specs.Event.{says}
 use Rattle.events.proofs.LeaveLaws.{stay_few, disconnected_long, disconnected_out, disconnected_unread, disconnected_done}

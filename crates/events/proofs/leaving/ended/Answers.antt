@@ -5,7 +5,7 @@ use mathlib.Core.Path.{ap, ◌∙◌}
 use Rattle.std.specs.Result.{result_ok}
 use Rattle.store.specs.Store.{store_length}
 use Rattle.store.specs.Layout.{filters_at, eqs_at, notes_at}
-use Rattle.store.proofs.OpenLaws.{missing}
+use Rattle.text.proofs.TryLaws.{missing}
 use Rattle.store.proofs.PartLaws.{shaped_told, bounds_told}
 use Rattle.events.specs.Event.{says}
 use Rattle.events.proofs.LeaveLaws.{stay_few, ended_out, ended_unread, ended_done}
