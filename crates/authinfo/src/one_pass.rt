@@ -72,7 +72,7 @@ pub(crate) fn in_one_pass(line: &[u8]) -> Option<RuleParts>
     while i < line.len() {
         let end = plain_text(line, i)?;
         let p = value_behind(line, end + 1)?;
-        let value = Word::of_value(line, p);
+        let value = Word::new(line, p);
         found = with_member(&line[i + 1..end], &value, found);
         let behind = value.end(end - (i + 1))?;
         match separator(line, behind, b'}')? {

@@ -116,8 +116,12 @@ fn rule_says(line: &[u8], parts: RuleParts, asks: &Question) -> Result<Option<bo
     let action = parts.action.ok_or(Refusal::NotARule)?;
     let level = qos_at(line, parts.qos, asks.asked.qos()).ok_or(Refusal::NotARule)?;
     let at = parts.topic.ok_or(Refusal::NotARule)?;
-    let quote = parts.quote;
-    let taken = topic_at(&Word { line, at, quote }, asks)?;
+    let topic = Word {
+        line,
+        at,
+        quote: parts.quote,
+    };
+    let taken = topic_at(&topic, asks)?;
     let kind = takes_kind(allow, action, truth_at(line, parts.retain), asks.asked);
     let hits = level && kind && taken;
     Ok(hits.then_some(allow))

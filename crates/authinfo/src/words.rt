@@ -39,17 +39,6 @@ impl<'a> Word<'a> {
         Word {
             line,
             at,
-            quote: plain_text(line, at),
-        }
-    }
-
-    // The value at a place, of any kind.
-    pub(crate) fn of_value(line: &'a [u8], at: usize) -> Self
-        ensures { (result.line ≡ line.entry) × (result.at ≡ at) }
-    {
-        Word {
-            line,
-            at,
             quote: closing_quote(line, at),
         }
     }
@@ -108,8 +97,11 @@ impl<'a> Word<'a> {
             }
             return Some(end + 1);
         }
-        let at = self.at;
-        let c = value(Cursor { at, longest }, self.line, INSIDE)?;
+        let begins = Cursor {
+            at: self.at,
+            longest,
+        };
+        let c = value(begins, self.line, INSIDE)?;
         if TEXT < c.longest {
             return None;
         }

@@ -35,9 +35,9 @@ returns-in_err-at c =
     let none = missing c.args.parts.topic c.from_residual-in_err-at.result c.ok_or-4.ensures.value c.in_err-at.was c.from_residual-in_err-at.ensures.1 in
     none.1 ∙ sym (parts_by c.args.line.now c.args.parts c.args.asks.now.asked c.args.asks.now.client.now.id c.args.asks.now.client.now.name c.args.asks.now.topic.now (there c.args.parts.permission NotARule c.ok_or.ensures.value c.in_ok-allow.was) (there c.args.parts.action NotARule c.ok_or-2.ensures.value c.in_ok-action.was) (qos_asked_lem c.args.line.now c.args.asks.now.asked c.args.parts.qos c.qos.ensures c.qos_at.ensures (there c.qos_at.result NotARule c.ok_or-3.ensures.value c.in_ok-level.was)) (ap (topic_from c.args.asks.now.topic.now c.args.asks.now.client.now.id c.args.asks.now.client.now.name c.args.line.now) none.0))
 
-pub invariant_of-topic_at : goal.invariant_of-topic_at
+pub invariant_of-topic : goal.invariant_of-topic
 unfolding quote_at
-invariant_of-topic_at c =
+invariant_of-topic c =
     record { closes = c.requires.quote_value ∙ ap (quote_at c.args.line.now) (there c.args.parts.topic NotARule c.ok_or-4.ensures.value c.in_ok-at.was) }
 
 pub returns-in_err-taken : goal.returns-in_err-taken
