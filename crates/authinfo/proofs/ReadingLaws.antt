@@ -6,7 +6,7 @@ use mathlib.Core.Path.{◌≡◌, refl, sym, ap, subst, ◌∙◌}
 use mathlib.Core.Bool.{Bool, true, false, ◌&&◌, ◌||◌, cond}
 use mathlib.Core.List.{List, [], ◌∷◌}
 use Rattle.std.specs.Prelude.{Option, None, Some, Ok, Err, Result}
-use Rattle.std.specs.Option.{option_map, ok_or}
+use Rattle.std.specs.Option.{option_map}
 use Rattle.std.specs.Result.{IsErrAnd, MatchResult}
 use Rattle.std.proofs.lemmas.Result.{err_from_is_err_and}
 use Rattle.text.specs.Maybe.{bind}
@@ -39,19 +39,7 @@ use Rattle.authinfo.specs.declared.RulePlaces.{RulePlaces}
 use Rattle.authinfo.proofs.MemberLaws.{Stands, member_stands, permission_stands, action_stands, retain_stands, topic_stands, short_stands}
 use Rattle.rule.specs.declared.Refusal.{Refusal}
 
--- ---- what a `?` passes on
-
-pub passed_on : {T E : Type 0} {e : E} (r : Result T E) → IsErrAnd r (λ x. x ≡ e) → r ≡ Err e
-passed_on r h = let p = err_from_is_err_and r h in p.1 ∙ ap Err p.2
-
--- a value that must be there
-pub missing : {A B E : Type 0} (o : Option A) {e f : E} {r : Result A E} (s : Result B E) → r ≡ ok_or o f → r ≡ Err e → IsErrAnd s (λ x. x ≡ e) → (o ≡ None) × (s ≡ Err f)
-missing None {e} {f} s h k p = let same : e ≡ f = cc in (refl, passed_on s p ∙ ap Err same)
-missing (Some x) {e} {f} {r} s h k p = let z : ◌≡◌ {A = ℕ} 0 1 = cc in absurd (omega arith)
-
-pub there : {A E : Type 0} (o : Option A) (f : E) {x : A} {r : Result A E} → r ≡ ok_or o f → r ≡ Ok x → o ≡ Some x
-there None f h k = let z : ◌≡◌ {A = ℕ} 0 1 = cc in absurd (omega arith)
-there (Some y) f {x} h k = cc
+-- ---- what `map_err` and a `?` pass on
 
 -- an error that `map_err` made, and a value that it left
 pub mapped_err : {A E D : Type 0} (r : Result A E) (s : Result A D) (P : E → D → Type 0) {d : D} → MatchResult r (λ x. s ≡ Ok x) (λ e. IsErrAnd s (P e)) → s ≡ Err d

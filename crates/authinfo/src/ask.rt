@@ -1,11 +1,11 @@
 // The per-client questions: 1 and 2 by their arguments, then line by line; all lines are read, whoever asks.
-ghost use Rattle.std.specs.Prelude.{◌≡◌, false};
+ghost use Rattle.std.specs.Prelude.{◌≡◌};
 ghost use Rattle.json_text.specs.Lines.{lines};
 ghost use Rattle.authinfo.specs.Decision as decision;
 ghost use Rattle.authinfo.specs.Answers as answers;
 ghost use Rattle.authinfo.specs.Places as spec;
 
-use crate::client::Client;
+use crate::client::{Client, Question};
 use crate::reading::line_says;
 use crate::{Asked, Hit, PublishAnswer, QOS, SubscribeAnswer};
 use json_text::splitting::{Lines, count_lines};
@@ -22,20 +22,14 @@ fn or_hit(found: Option<Hit>, said: Option<bool>, rule: usize) -> Option<Hit>
 }
 
 // The first rule of the text that hits, or its first faulty line.
-fn first_hit(
-    rules: &[u8],
-    asked: Asked,
-    client: &Client,
-    topic: &[u8],
-) -> Result<Option<Hit>, Fault>
-    requires { decision.name_over client.now.name ≡ false }
-    ensures { result ≡ spec.hit_in (spec.question_of asked topic.now) (decision.read_lines client.now.id client.now.name 1 (lines rules.now)) }
+fn first_hit(rules: &[u8], asks: &Question) -> Result<Option<Hit>, Fault>
+    ensures { result ≡ spec.hit_in (spec.question_of asks.now.asked asks.now.topic.now) (decision.read_lines asks.now.client.now.id asks.now.client.now.name 1 (lines rules.now)) }
 {
     let mut found = None;
     let mut n = 0;
     for line in Lines::new(rules) {
         n += 1;
-        let said = line_says(line, asked, client, topic).map_err(|cause| Fault { cause, line: n })?;
+        let said = line_says(line, asks).map_err(|cause| Fault { cause, line: n })?;
         found = or_hit(found, said, n);
     }
     Ok(found)
@@ -82,7 +76,12 @@ fn deciding(client: &Client, rules: &[u8], asked: Asked, topic: &[u8]) -> Result
             line: 0,
         });
     }
-    let found = first_hit(rules, asked, client, topic)?;
+    let asks = Question {
+        client,
+        asked,
+        topic,
+    };
+    let found = first_hit(rules, &asks)?;
     if client.superuser {
         return Ok(Some(Hit {
             rule: 0,

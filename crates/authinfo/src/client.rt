@@ -1,7 +1,9 @@
-// Who asks the rules that came with his credentials.
-ghost use Rattle.std.specs.Prelude.{◌≡◌};
+// Who asks the rules that came with his credentials, and what.
+ghost use Rattle.std.specs.Prelude.{◌≡◌, false};
 ghost use Rattle.authinfo.specs.Given.{given};
+ghost use Rattle.authinfo.specs.Decision.{name_over};
 
+use crate::Asked;
 use std::marker::Model;
 
 // A client: whether as a superuser, the id, and the user name, if there is one, by its length beside the slice, the form that document
@@ -34,4 +36,13 @@ impl<'a> Client<'a> {
             names,
         }
     }
+}
+
+// What is asked, on a topic, by a client whose name, if he has one, isn't over the limit.
+#[derive(Clone, Copy)]
+pub(crate) struct Question<'a> {
+    pub(crate) client: &'a Client<'a>,
+    pub(crate) asked: Asked,
+    pub(crate) topic: &'a [u8],
+    ghost name_fits: { name_over client.now.name ≡ false },
 }

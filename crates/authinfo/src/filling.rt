@@ -1,13 +1,13 @@
-// A rule's topic, filled for the client and held against the asked one.
-ghost use Rattle.std.specs.Prelude.{◌≡◌, false, ◌+◌, ◌≤◌, length, Some};
+// A rule's topic, filled for the client and held against the asked one. `eq`, whether it stands under `eq`, is a part of it as in the specs'
+// record, not a switch: it is handed on, and `taken` alone looks at it.
+ghost use Rattle.std.specs.Prelude.{◌≡◌, ◌+◌, ◌≤◌, length, Some};
 ghost use Rattle.json_text.specs.Strings.{string_at};
-ghost use Rattle.json_text.specs.Plain.{plain_text};
 ghost use Rattle.authinfo.specs.ClientRule as rule;
-ghost use Rattle.authinfo.specs.Decision as decision;
 ghost use Rattle.authinfo.specs.Places as spec;
 ghost use Rattle.authinfo.specs.Filling as words;
 
-use crate::client::Client;
+use crate::client::Question;
+use crate::words::Word;
 use json_text::strings::decode;
 use rule::{Refusal, TEXT};
 
@@ -37,7 +37,7 @@ fn taken(filled: &[u8], eq: bool, topic: &[u8]) -> Result<bool, Refusal>
     Ok(topic::plain_match(filled, topic))
 }
 
-// The text, with the client id for `${clientid}` where the configured topic held it.
+// The text, with the client id for `${clientid}` where the configured topic held it. `held` is what was seen before a user name was put in.
 fn with_id(before: &[u8], held: bool, eq: bool, id: &[u8], topic: &[u8]) -> Result<bool, Refusal>
     ensures { result ≡ spec.taken_by topic.now (rule.filled_topic eq (Some (spec.id_put held id.now before.now))) }
 {
@@ -89,11 +89,11 @@ fn with_word(text: &[u8], at: usize, new: &[u8], eq: bool, topic: &[u8]) -> Resu
 }
 
 // The configured text, without its `eq `, filled. Most have no `$`, or one, at which one of the words stands.
-fn filled(configured: &[u8], eq: bool, client: &Client, topic: &[u8]) -> Result<bool, Refusal>
-    requires names_value { decision.name_over client.now.name ≡ false }
-    requires short { spec.Short configured.now }
-    ensures { result ≡ spec.taken_by topic.now (rule.filled_topic eq (rule.fill_for client.now.id client.now.name configured.now)) }
+fn filled(configured: &[u8], eq: bool, asks: &Question) -> Result<bool, Refusal>
+    requires { spec.Short configured.now }
+    ensures { result ≡ spec.taken_by asks.now.topic.now (rule.filled_topic eq (rule.fill_for asks.now.client.now.id asks.now.client.now.name configured.now)) }
 {
+    let Question { client, topic, .. } = *asks;
     let at = dollar_from(configured, 0);
     if at == configured.len() {
         return taken(configured, eq, topic);
@@ -108,20 +108,15 @@ fn filled(configured: &[u8], eq: bool, client: &Client, topic: &[u8]) -> Result<
         let name = text::front(client.names, n);
         return with_word(configured, at, name, eq, topic);
     }
-    filled_in_turn(configured, eq, client, topic)
+    filled_in_turn(configured, eq, asks)
 }
 
 // The configured text, without its `eq `, with the user name for `${username}`, then the client id for `${clientid}`.
-fn filled_in_turn(
-    configured: &[u8],
-    eq: bool,
-    client: &Client,
-    topic: &[u8],
-) -> Result<bool, Refusal>
-    requires names_value { decision.name_over client.now.name ≡ false }
-    requires short { spec.Short configured.now }
-    ensures { result ≡ spec.taken_by topic.now (rule.filled_topic eq (rule.fill_for client.now.id client.now.name configured.now)) }
+fn filled_in_turn(configured: &[u8], eq: bool, asks: &Question) -> Result<bool, Refusal>
+    requires { spec.Short configured.now }
+    ensures { result ≡ spec.taken_by asks.now.topic.now (rule.filled_topic eq (rule.fill_for asks.now.client.now.id asks.now.client.now.name configured.now)) }
 {
+    let Question { client, topic, .. } = *asks;
     let held = text::contains(configured, &CLIENTID);
     if !text::contains(configured, &USERNAME) {
         return with_id(configured, held, eq, client.id, topic);
@@ -139,39 +134,30 @@ fn filled_in_turn(
 }
 
 // A configured topic: behind `eq ` a text, else a filter that isn't empty.
-fn configured(text: &[u8], client: &Client, topic: &[u8]) -> Result<bool, Refusal>
-    requires names_value { decision.name_over client.now.name ≡ false }
-    requires short { spec.Short text.now }
-    ensures { result ≡ spec.topic_takes topic.now client.now.id client.now.name (Some text.now) }
+fn configured(text: &[u8], asks: &Question) -> Result<bool, Refusal>
+    requires { spec.Short text.now }
+    ensures { result ≡ spec.topic_takes asks.now.topic.now asks.now.client.now.id asks.now.client.now.name (Some text.now) }
 {
     if text::begins(text, b"eq ") {
-        return filled(&text[3..], true, client, topic);
+        return filled(&text[3..], true, asks);
     }
     if text.len() == 0 {
         return Err(Refusal::NotARule);
     }
-    filled(text, false, client, topic)
+    filled(text, false, asks)
 }
 
-// The topic whose string stands at this place of the line. A plain one, whose closing quote is given, is read in place.
-pub(crate) fn topic_at(
-    line: &[u8],
-    at: usize,
-    quote: Option<usize>,
-    client: &Client,
-    topic: &[u8],
-) -> Result<bool, Refusal>
-    requires names_value { decision.name_over client.now.name ≡ false }
-    requires short_at { spec.ShortAt (string_at line.now at) }
-    requires quote_value { quote ≡ plain_text line.now at }
-    ensures { result ≡ spec.topic_takes topic.now client.now.id client.now.name (spec.text_of (string_at line.now at)) }
+// The topic whose string this is. A plain one is read in place.
+pub(crate) fn topic_at(word: &Word, asks: &Question) -> Result<bool, Refusal>
+    requires { spec.ShortAt (string_at word.now.line.now word.now.at) }
+    ensures { result ≡ spec.topic_takes asks.now.topic.now asks.now.client.now.id asks.now.client.now.name (spec.text_of (string_at word.now.line.now word.now.at)) }
 {
-    if let Some(end) = quote {
-        return configured(&line[at + 1..end], client, topic);
+    if let Some(end) = word.quote {
+        return configured(&word.line[word.at + 1..end], asks);
     }
     let mut decoded = [0u8; TEXT];
-    match decode(line, at, &mut decoded) {
-        Ok(n) => configured(&decoded[..n], client, topic),
+    match decode(word.line, word.at, &mut decoded) {
+        Ok(n) => configured(&decoded[..n], asks),
         Err(_) => Err(Refusal::NotARule),
     }
 }

@@ -1,12 +1,11 @@
 // The members of a rule's object, in one pass: the places of the values that say something.
 ghost use Rattle.std.specs.Prelude.{◌≡◌, cond};
 ghost use Rattle.json_text.specs.Access.{string_is, member_value};
-ghost use Rattle.json_text.specs.Plain.{plain_text};
 ghost use Rattle.authinfo.specs.Places as spec;
 
-use crate::words::word_is;
+use crate::words::Word;
 use crate::{INSIDE, RulePlaces};
-use json_text::access::{first_member, member_value, plain_text};
+use json_text::access::{first_member, member_value};
 use json_text::values::{item, separator};
 use json_text::{Cursor, Separator};
 
@@ -19,19 +18,12 @@ const NONE: RulePlaces = RulePlaces {
     topic: None,
 };
 
-// The value of the member whose name stands at this place, if it has this name; else the one before. A plain name is read in place.
-fn noted(
-    line: &[u8],
-    at: usize,
-    quote: Option<usize>,
-    name: &[u8],
-    before: Option<usize>,
-) -> Option<usize>
-    requires { quote ≡ plain_text line.now at }
-    ensures { result ≡ cond (string_is line.now at name.now) (member_value line.now at) before }
+// The value of the member whose name this is, if it is called `name`; else the one before.
+fn noted(word: &Word, name: &[u8], before: Option<usize>) -> Option<usize>
+    ensures { result ≡ cond (string_is word.now.line.now word.now.at name.now) (member_value word.now.line.now word.now.at) before }
 {
-    if word_is(line, at, quote, name) {
-        return member_value(line, at);
+    if word.is(name) {
+        return member_value(word.line, word.at);
     }
     before
 }
@@ -41,13 +33,13 @@ fn noted(
 fn with_member(line: &[u8], at: usize, found: RulePlaces) -> RulePlaces
     ensures { result ≡ spec.noted_at line.now at found }
 {
-    let quote = plain_text(line, at);
+    let word = Word::new(line, at);
     RulePlaces {
-        permission: noted(line, at, quote, b"permission", found.permission),
-        action: noted(line, at, quote, b"action", found.action),
-        qos: noted(line, at, quote, b"qos", found.qos),
-        retain: noted(line, at, quote, b"retain", found.retain),
-        topic: noted(line, at, quote, b"topic", found.topic),
+        permission: noted(&word, b"permission", found.permission),
+        action: noted(&word, b"action", found.action),
+        qos: noted(&word, b"qos", found.qos),
+        retain: noted(&word, b"retain", found.retain),
+        topic: noted(&word, b"topic", found.topic),
     }
 }
 

@@ -1,15 +1,15 @@
 // What the rule of a line says to a question.
-ghost use Rattle.std.specs.Prelude.{◌≡◌, false};
+ghost use Rattle.std.specs.Prelude.{◌≡◌};
 ghost use Rattle.authinfo.specs.ClientRule as rule;
 ghost use Rattle.authinfo.specs.Decision as decision;
 ghost use Rattle.authinfo.specs.Places as spec;
 ghost use Rattle.authinfo.specs.OnePass as pass;
 
-use crate::client::Client;
+use crate::client::Question;
 use crate::filling::topic_at;
 use crate::members::places_at;
 use crate::one_pass::in_one_pass;
-use crate::words::{action_at, permission_at};
+use crate::words::{Word, action_at, permission_at};
 use crate::{Action, Asked, QOS, RuleParts, RulePlaces};
 use json_text::Kind;
 use json_text::access::{Elements, kind_at, number_value, plain_text};
@@ -57,7 +57,7 @@ fn qos_at(line: &[u8], at: Option<usize>, asked: u64) -> Option<bool>
     }
 }
 
-// Does a rule's retain, by its permission, take a publish that is retained or not?
+// Does a rule's retain, by its permission, take a publish that is retained or not? All three are values, the rule's and the question's.
 #[tactic(auto, unfolding(crate::specs::Decision::publish_retain))]
 fn takes_retain(allow: bool, retain: Option<bool>, retained: bool) -> bool
     ensures { result ≡ decision.publish_retain allow retain retained }
@@ -107,48 +107,40 @@ fn parts_at(line: &[u8], places: RulePlaces) -> RuleParts
 }
 
 // The rule of an object whose members tell this; no string of the line is over 256 bytes.
-fn rule_says(
-    line: &[u8],
-    parts: RuleParts,
-    asked: Asked,
-    client: &Client,
-    topic: &[u8],
-) -> Result<Option<bool>, Refusal>
-    requires names_value { decision.name_over client.now.name ≡ false }
+fn rule_says(line: &[u8], parts: RuleParts, asks: &Question) -> Result<Option<bool>, Refusal>
     requires short_topic { spec.ShortTopic line.now parts.topic }
     requires quote_value { parts.quote ≡ pass.quote_at line.now parts.topic }
-    ensures { result ≡ pass.parts_say line.now parts asked client.now.id client.now.name topic.now }
+    ensures { result ≡ pass.parts_say line.now parts asks.now.asked asks.now.client.now.id asks.now.client.now.name asks.now.topic.now }
 {
     let allow = parts.permission.ok_or(Refusal::NotARule)?;
     let action = parts.action.ok_or(Refusal::NotARule)?;
-    let level = qos_at(line, parts.qos, asked.qos()).ok_or(Refusal::NotARule)?;
-    let p = parts.topic.ok_or(Refusal::NotARule)?;
-    let taken = topic_at(line, p, parts.quote, client, topic)?;
-    let kind = takes_kind(allow, action, truth_at(line, parts.retain), asked);
+    let level = qos_at(line, parts.qos, asks.asked.qos()).ok_or(Refusal::NotARule)?;
+    let at = parts.topic.ok_or(Refusal::NotARule)?;
+    let topic = Word {
+        line,
+        at,
+        quote: parts.quote,
+    };
+    let taken = topic_at(&topic, asks)?;
+    let kind = takes_kind(allow, action, truth_at(line, parts.retain), asks.asked);
     let hits = level && kind && taken;
     Ok(hits.then_some(allow))
 }
 
 // What the line's rule says, or the first refusal in document 01's order.
-pub(crate) fn line_says(
-    line: &[u8],
-    asked: Asked,
-    client: &Client,
-    topic: &[u8],
-) -> Result<Option<bool>, Refusal>
-    requires { decision.name_over client.now.name ≡ false }
-    ensures { result ≡ spec.line_says (spec.question_of asked topic.now) (rule.read_line client.now.id client.now.name line.now) }
+pub(crate) fn line_says(line: &[u8], asks: &Question) -> Result<Option<bool>, Refusal>
+    ensures { result ≡ spec.line_says (spec.question_of asks.now.asked asks.now.topic.now) (rule.read_line asks.now.client.now.id asks.now.client.now.name line.now) }
 {
     if LINE < line.len() {
         return Err(Refusal::TooLong);
     }
     if let Some(parts) = in_one_pass(line) {
-        return rule_says(line, parts, asked, client, topic);
+        return rule_says(line, parts, asks);
     }
     let longest = check(line).ok_or(Refusal::NotJson)?;
     if TEXT < longest {
         return Err(Refusal::TooLong);
     }
     let places = places_at(line, skip_blanks(line, 0));
-    rule_says(line, parts_at(line, places), asked, client, topic)
+    rule_says(line, parts_at(line, places), asks)
 }

@@ -2,7 +2,7 @@
 -- Assumes nothing.
 use Prim.Native.Nat.{ℕ, suc, ◌+◌, ◌-◌, ◌≤◌, ◌<◌}
 use mathlib.Core.Path.{◌≡◌, refl, sym, ap, subst, ◌∙◌}
-use mathlib.Core.Bool.{false, ◌||◌}
+use mathlib.Core.Bool.{false}
 use mathlib.Core.List.{List, [], ◌∷◌, ◌++◌, map, append_assoc}
 use Rattle.std.specs.Prelude.{Option, Some, None}
 use native.Mathlib.Numerals.{add-one}
@@ -11,18 +11,19 @@ use lib.ListN.{length, take, drop}
 use lib.Seq.{length-take-le, take-add, take-take, drop_at}
 use Rattle.text.proofs.Laws.{or_split}
 use Rattle.table.proofs.TableLaws.{some_append}
-use Rattle.json_text.specs.Lines.{lines, line_at, next_line}
-use Rattle.json_text.proofs.LineLaws.{lines_here, Counted}
+use Rattle.json_text.specs.Lines.{lines}
+use Rattle.json_text.specs.Access.{places_from}
 use Rattle.table.specs.Table.{some_row}
 use Rattle.table.specs.declared.Pushed.{Pushed}
 use Rattle.table.specs.declared.Pushed.TheVariants.{Present, Added, Full}
-use Rattle.rule.specs.Limits.{text_limit, id_limit, lines_limit}
-use Rattle.rule.specs.RuleText.{Filled}
-use Rattle.events.specs.Templates.{first_topic, next_topic, template_at, topic_filling, topic_filled, filled_template, filled_from, over_filled}
+use Rattle.rule.specs.Limits.{text_limit, id_limit}
+use Rattle.rule.specs.RuleText.{Filled, filled_rules, filled, rules_of}
+use Rattle.events.specs.Templates.{first_topic, template_at, topic_filling, topic_filled, filled_template, over_filled}
 use Rattle.events.specs.Pushes.{pushes_answer, pushes, topic_bytes, filled_bytes, new_bytes, all_answer, all_pushed}
 use Rattle.events.specs.declared.FilledTopic.{FilledTopic}
 use Rattle.events.specs.declared.Table.{Table}
-use Rattle.events.proofs.TemplateWalk.{walk_topic, walk_end, walk_out, filled_on, on_start, on_line_lem, on_past, is_long, Brings, brings_none, brings_filter, brings_eq, topic_brings, walk_short}
+use Rattle.events.proofs.TemplateWalk.{is_long, Brings, brings_none, brings_filter, brings_eq, topic_brings, topic_over as over_by}
+use Rattle.events.proofs.PlaceWalk.{placed, lined, lined_one}
 use Rattle.events.proofs.PushLaws.{PushesRow, filter_topic, eq_topic, all_present, all_added, all_full, full_leaves, added_fits, Alike, same_alike}
 
 -- a topic's row is the row of what it brings
@@ -64,10 +65,6 @@ module _ (table : Table) (session : ℕ) (id : List ℕ) (name : Option (List �
   abbrev rows_for : List Filled → List (Option (List ℕ))
   rows_for fs = map (filled_bytes table session id) fs
 
-  -- the templates of a line's topics from a place on, of so many at the most, and of the lines behind it
-  abbrev pub onward : ℕ → ℕ → ℕ → Option ℕ → List Filled
-  onward rule at most next = filled_from most rule id name (line_at text at) next ++ filled_on (suc rule) id name text (next_line text at)
-
   -- the rows of these templates are left: pushed from here they come to what all come to, and no text is over 256
   pub record Left (fs : List Filled) (used : ℕ) (part : List ℕ) : Type 0 where
     pub answers : all_answer (rows_for fs) used part ≡ all_answer (new_bytes table session text id name) earlier before
@@ -85,74 +82,43 @@ module _ (table : Table) (session : ℕ) (id : List ℕ) (name : Option (List �
   moved : {fs gs : List Filled} {used : ℕ} {part : List ℕ} → fs ≡ gs → Left fs used part → Left gs used part
   moved {used = used} {part = part} e p = subst (λ (rest : List Filled). Left rest used part) e p
 
-  pub left_start : over_filled text id name ≡ false → Left (filled_on 0 id name text 0) earlier before
-  unfolding over_filled new_bytes
-  left_start none_over =
-      let same = on_start 0 id name text in
-      record {
-        answers = ap (λ fs. all_answer (rows_for fs) earlier before) same;
-        leaves = ap (λ fs. all_pushed (rows_for fs) earlier before) same;
-        size = refl;
-        short = ap (some_row is_long) same ∙ none_over;
-      }
+  pub left_start : over_filled text id name ≡ false → Left (lined id name 0 (lines text)) earlier before
+  unfolding over_filled new_bytes filled lined rules_of
+  left_start none_over = record { answers = refl; leaves = refl; size = refl; short = none_over }
 
   -- no line is left
-  pub left_end : {used : ℕ} {part : List ℕ} (rule at : ℕ) → length text ≤ at → Left (filled_on rule id name text at) used part
+  pub left_end : {used : ℕ} {part : List ℕ} {ls : List (List ℕ)} (rule : ℕ) → ls ≡ [] → Left (lined id name rule ls) used part
       → (Some used ≡ all_answer (new_bytes table session text id name) earlier before) × (part ≡ all_pushed (new_bytes table session text id name) earlier before)
-  unfolding all_answer all_pushed
-  left_end rule at h p = let end = moved (on_past rule id name text at h) p in (end.answers, end.leaves)
+  unfolding all_answer all_pushed lined filled_rules
+  left_end rule none p = let end = moved (ap (lined id name rule) none) p in (end.answers, end.leaves)
 
-  -- the number of a line that is left
-  pub rule_fits : (rule at : ℕ) → at < length text → length (lines text) ≤ lines_limit → Counted text lines_limit rule at → rule + 1 ≤ lines_limit
-  rule_fits rule at h l c = omega (arith, c.all, ap length (lines_here text at h))
+  -- a line is left: it is its topics, and the lines behind it
+  pub topics_start : {used : ℕ} {part line : List ℕ} {all ls : List (List ℕ)} {ps : List ℕ} (rule : ℕ) → all ≡ line ∷ ls → ps ≡ places_from line (first_topic line)
+      → Left (lined id name rule all) used part → Left (placed id name rule line ps ++ lined id name (suc rule) ls) used part
+  topics_start {line = line} {ls = ls} rule e q p =
+      moved (ap (lined id name rule) e ∙ (lined_one id name rule line ls ∙ ap (λ ps. placed id name rule line ps ++ lined id name (suc rule) ls) (sym q))) p
 
-  -- a line is left
-  module _ {used : ℕ} {part : List ℕ} (rule at : ℕ) (h : at < length text) where
-    -- it is its topics, and the lines behind it
-    pub topics_start : {next : Option ℕ} → next ≡ first_topic (line_at text at) → Left (filled_on rule id name text at) used part
-        → Left (onward rule at (length text) next) used part
-    topics_start e p = moved (on_line_lem rule id name text at (length text) h (omega arith) ∙ ap (λ (nx : Option ℕ). onward rule at (length text) nx) (sym e)) p
-
-    -- no topic is left, or none may come any more
-    line_next : {at₁ : ℕ} (turns : ℕ) (next : Option ℕ) → filled_from turns rule id name (line_at text at) next ≡ [] → at₁ ≡ next_line text at
-        → Left (onward rule at turns next) used part → Left (filled_on (rule + 1) id name text at₁) used part
-    line_next turns next gone e p =
-        moved (ap (λ fs. fs ++ filled_on (suc rule) id name text (next_line text at)) gone ∙ (λ i. filled_on (sym (add-one rule) i) id name text (sym e i))) p
-
-    pub topics_none : {at₁ : ℕ} {next : Option ℕ} (turns : ℕ) → next ≡ None → at₁ ≡ next_line text at → Left (onward rule at turns next) used part
-        → Left (filled_on (rule + 1) id name text at₁) used part
-    topics_none {next = next} turns e = line_next turns next (walk_end rule id name (line_at text at) turns e)
-
-    pub topics_out : {at₁ : ℕ} (turns : ℕ) (next : Option ℕ) → turns ≤ 0 → at₁ ≡ next_line text at → Left (onward rule at turns next) used part
-        → Left (filled_on (rule + 1) id name text at₁) used part
-    topics_out turns next e = line_next turns next (walk_out rule id name (line_at text at) turns next e)
+  -- no topic is left
+  pub topics_none : {used : ℕ} {part ps : List ℕ} (rule : ℕ) (line : List ℕ) (ls : List (List ℕ)) → ps ≡ []
+      → Left (placed id name rule line ps ++ lined id name (suc rule) ls) used part → Left (lined id name (rule + 1) ls) used part
+  unfolding placed
+  topics_none rule line ls e p =
+      moved (ap (λ ps. placed id name rule line ps ++ lined id name (suc rule) ls) e ∙ (λ i. lined id name (sym (add-one rule) i) ls)) p
 
   -- a topic is left: its row is pushed next
-  pub topic_row : {used turns place : ℕ} {part after : List ℕ} {next next₁ : Option ℕ} {answer : FilledTopic} (rule at : ℕ) (buffer : List ℕ)
-      → Left (onward rule at turns next) used part → 0 < turns → next ≡ Some place → length id ≤ id_limit → length buffer ≡ text_limit
-      → answer ≡ topic_filling (length buffer) id name (template_at (line_at text at) place)
-      → after ≡ topic_filled buffer id name (template_at (line_at text at) place) → next₁ ≡ next_topic (line_at text at) place
-      → RowLeft (topic_bytes table rule session id answer after) (onward rule at (turns - 1) next₁) used part
-  topic_row {used} {turns} {place} {part} {after} {next} {next₁} rule at buffer p k e small size told wrote f =
-      let line = line_at text at in
-      let rest = filled_on (suc rule) id name text (next_line text at) in
-      let behind : List Filled = filled_from (turns - 1) rule id name line next₁ in
-      let short = or_split (some_row is_long (filled_from turns rule id name line next)) _ (sym (some_append is_long _ rest) ∙ p.short) in
-      let shorts = walk_short rule id name line turns small size k e told short.0 in
-      let brings = topic_brings rule id name line place buffer small size told wrote shorts.0 in
-      let onto = ap (λ (nx : Option ℕ). filled_from (turns - 1) rule id name line nx) f in
-      let opened =
-      ap (λ fs. fs ++ rest) (walk_topic rule id name line turns k e ∙ ap (λ fs. filled_template rule id name (template_at line place) ++ fs) (sym onto))
-      ∙ append_assoc (filled_template rule id name (template_at line place)) behind rest in
-      let q = moved opened p in
+  pub topic_row : {used place : ℕ} {part after all ps : List ℕ} {answer : FilledTopic} (rule : ℕ) (line : List ℕ) (rest : List Filled) (buffer : List ℕ)
+      → all ≡ place ∷ ps → Left (placed id name rule line all ++ rest) used part → length id ≤ id_limit → length buffer ≡ text_limit
+      → answer ≡ topic_filling (length buffer) id name (template_at line place) → after ≡ topic_filled buffer id name (template_at line place)
+      → RowLeft (topic_bytes table rule session id answer after) (placed id name rule line ps ++ rest) used part
+  unfolding placed
+  topic_row {used} {place} {part} {after} {all} {ps} rule line rest buffer e p small size told wrote =
+      let here : List Filled = filled_template rule id name (template_at line place) in
+      let behind : List Filled = placed id name rule line ps in
+      let q = moved (ap (λ ps. placed id name rule line ps ++ rest) e ∙ append_assoc here behind rest) p in
+      let shorts = or_split (some_row is_long here) (some_row is_long (behind ++ rest)) (sym (some_append is_long here (behind ++ rest)) ∙ q.short) in
+      let brings = topic_brings rule id name line place buffer small size told wrote (sym (over_by rule id name line place small size told) ∙ shorts.0) in
       let alike = (brings_rows table session id (behind ++ rest) brings).come used part in
-      let short₁ : some_row is_long behind ≡ false = ap (some_row is_long) onto ∙ shorts.1 in
-      record {
-        answers = sym alike.0 ∙ q.answers;
-        leaves = sym alike.1 ∙ q.leaves;
-        size = p.size;
-        short = some_append is_long behind rest ∙ (λ i. short₁ i || short.1 i);
-      }
+      record { answers = sym alike.0 ∙ q.answers; leaves = sym alike.1 ∙ q.leaves; size = p.size; short = shorts.1 }
 
   -- by what pushing it answers
   module _ {used : ℕ} {part new : List ℕ} {fs : List Filled} {row : Option (List ℕ)} {answer : Pushed}

@@ -1,6 +1,7 @@
 pub mod EventLaws
 pub mod AcceptedLaws
 pub mod TemplateWalk
+pub mod PlaceWalk
 pub mod PushLaws
 pub mod ConnectLaws
 pub mod FillLaws

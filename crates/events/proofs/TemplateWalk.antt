@@ -1,8 +1,7 @@
--- The templates of a rule text by places: a topic at its place, the walk over a line's topics and over the lines, and the steps of the loops
--- over both. Assumes nothing.
+-- The templates of a rule text by places: a topic at its place, the walk over a line's topics, and what filling one answers. Assumes nothing.
 use Prim.Native.Nat.{ℕ, zero, suc, ◌+◌, ◌-◌, ◌≤◌, ◌<◌}
 use mathlib.Core.Path.{◌≡◌, refl, sym, ap, subst, ◌∙◌}
-use mathlib.Core.Bool.{Bool, true, false, ◌&&◌, ◌||◌, not, cond, or-false, or_assoc}
+use mathlib.Core.Bool.{Bool, true, false, ◌&&◌, not, cond, or-false}
 use mathlib.Core.List.{List, [], ◌∷◌, ◌++◌, map}
 use Rattle.std.specs.Prelude.{Option, None, Some, Ok, Err, Result}
 use Rattle.std.specs.Option.{option_map}
@@ -11,21 +10,20 @@ use Rattle.text.specs.Maybe.{bind}
 use native.Mathlib.Omega.{arith}
 use borrow.Author.Tests.{le-leb, lt-leb, ltb-true, ltb-false}
 use lib.Dec.{leb, ltb}
-use lib.ListN.{length, take, drop}
-use Rattle.text.proofs.Laws.{or_split, written-take}
+use lib.ListN.{length, take}
+use Rattle.text.proofs.Laws.{written-take}
 use Rattle.json_text.specs.Strings.{string_at}
 use Rattle.json_text.specs.Json.{Elements, no_element, element, depth_limit, line_value, longest, longest_element}
-use Rattle.json_text.specs.Lines.{line_at, next_line}
+use Rattle.json_text.specs.Lines.{next_line}
 use Rattle.json_text.proofs.ValueLaws.{value_next}
 use Rattle.json_text.proofs.AccessLaws.{element_place, ElementsIn, array_is}
-use Rattle.json_text.proofs.LineLaws.{lines_here, lines_past, line_within, next_after}
+use Rattle.json_text.proofs.LineLaws.{next_after}
 use Rattle.table.specs.Table.{some_row}
-use Rattle.table.proofs.TableLaws.{some_append}
 use Rattle.rule.specs.Limits.{text_limit, id_limit}
 use Rattle.rule.specs.Rule as spec
 use Rattle.rule.specs.Rule.{Value, Rule, TopicOf, means, topic_means, as_array, is_template, topic_of, topics_in, topics_of}
 use Rattle.rule.specs.Fill.{fill}
-use Rattle.rule.specs.RuleText.{read_rule, rule_on, rules_of, Filled, filled_topics, listed, filled_rules, filled}
+use Rattle.rule.specs.RuleText.{read_rule, rule_on, Filled, filled_topics, listed}
 use Rattle.rule.specs.Places.{value_of, placed_topic, topic_answer, place_of, fourth_of, rule_answer, placed_rule, filling, filled_into, filling_at, filled_at}
 use Rattle.rule.specs.declared.Rule.{Rule as PlacedRule}
 use Rattle.rule.specs.declared.Topic.{Topic}
@@ -36,7 +34,7 @@ use Rattle.rule.proofs.IdentityLaws.{Stands as TextStands, Listed as OrNone, unl
 use Rattle.rule.proofs.StandsLaws.{fills_topic}
 use Rattle.rule.proofs.FourthLaws.{topic_at_stands, topic_under, bound, mapped, array-value, FourthIs, fourth_is}
 use Rattle.store.specs.Store.{over}
-use Rattle.events.specs.Templates.{first_of, first_in, first_topic, next_topic, if_template, template_at, filled_as, topic_filling, topic_filled, filled_template, filled_from, over_filled}
+use Rattle.events.specs.Templates.{first_of, first_in, first_topic, next_topic, if_template, template_at, filled_as, topic_filling, topic_filled, filled_template, filled_from}
 use Rattle.events.specs.declared.FilledTopic.{FilledTopic}
 use Rattle.events.specs.declared.FilledTopic.TheVariants.{Static, TooLong as FillsOver, Filter as FilterOf, Eq as EqOf}
 use Rattle.rule.specs.declared.Refusal.{Refusal}
@@ -219,34 +217,6 @@ module _ (n : ℕ) (id : List ℕ) (name : Option (List ℕ)) (line : List ℕ) 
 
 -- ---- the walk over the lines
 
--- the templates of the lines from a place on, counted from n
-unfoldable pub filled_on : ℕ → List ℕ → Option (List ℕ) → List ℕ → ℕ → List Filled
-filled_on n id name text at = filled_rules n id name (rules_of (drop at text))
-
-module _ (n : ℕ) (id : List ℕ) (name : Option (List ℕ)) (text : List ℕ) where
-  pub on_start : filled_on 0 id name text 0 ≡ filled text id name
-  unfolding filled_on filled
-  on_start = refl
-
-  module _ (at : ℕ) where
-    -- the line at the place, and those behind it
-    pub on_rule : at < length text
-        → filled_on n id name text at ≡ filled_topics n id name (listed (rule_on (read_rule (line_at text at)))) ++ filled_on (suc n) id name text (next_line text at)
-    unfolding filled_on filled_rules rules_of
-    on_rule h = ap (λ (ls : List (List ℕ)). filled_rules n id name (map (λ line. rule_on (read_rule line)) ls)) (lines_here text at h)
-
-    -- the line by the places of its topics, with any fuel from the text's length on
-    pub on_line_lem : (most : ℕ) → at < length text → length text ≤ most
-        → filled_on n id name text at ≡ filled_from most n id name (line_at text at) (first_topic (line_at text at)) ++ filled_on (suc n) id name text (next_line text at)
-    on_line_lem most h k =
-        let within = line_within text at (omega arith) in
-        on_rule h ∙ ap (λ (fs : List Filled). fs ++ filled_on (suc n) id name text (next_line text at)) (sym (walk_line n id name (line_at text at) most (omega arith)))
-
-    -- no line is left
-    pub on_past : length text ≤ at → filled_on n id name text at ≡ []
-    unfolding filled_on filled_rules rules_of
-    on_past h = ap (λ (ls : List (List ℕ)). filled_rules n id name (map (λ line. rule_on (read_rule line)) ls)) (lines_past text at h)
-
 -- the next line is nearer to the end
 pub next_less : (text : List ℕ) (at : ℕ) {next : ℕ} → at < length text → next ≡ next_line text at → length text - next < length text - at
 next_less text at h e = let after = next_after text at h in omega arith
@@ -357,73 +327,3 @@ topic_brings n id name line p buffer {answer} {after} h size = by (bind (value_o
         → Brings n answer after (filled_template n id name (bind o (λ t. if_template (topic_means t))))
     by None a w o = brings_none a
     by (Some t) a w o = tests (topic_means t).text (topic_means t).eq (over text_limit (topic_means t).text) (is_template (topic_means t).text) refl a w o
-
--- where no text of the topics from a place on is over 256, neither is the first of them, nor one of the others
-pub walk_short : (n : ℕ) (id : List ℕ) (name : Option (List ℕ)) (line : List ℕ) (most : ℕ) {place : Option ℕ} {p room : ℕ} {answer : FilledTopic}
-    → length id ≤ id_limit → room ≡ text_limit → 0 < most → place ≡ Some p → answer ≡ topic_filling room id name (template_at line p)
-    → some_row is_long (filled_from most n id name line place) ≡ false
-    → (is_over answer ≡ false) × (some_row is_long (filled_from (most - 1) n id name line (next_topic line p)) ≡ false)
-walk_short n id name line most {p = p} small whole k e told h =
-    let one = ap (some_row is_long) (walk_topic n id name line most k e) ∙ some_append is_long _ _ in
-    let both = or_split (some_row is_long (filled_template n id name (template_at line p))) _ (sym one ∙ h) in
-    (sym (topic_over n id name line p small whole told) ∙ both.0, both.1)
-
-module _ (text id : List ℕ) (name : Option (List ℕ)) where
-  -- one of the lines from a place on has a text over 256 exactly if one of all has, whatever they are counted from
-  abbrev pub OverOn : ℕ → Type 0
-  OverOn at = (n : ℕ) × (some_row is_long (filled_on n id name text at) ≡ over_filled text id name)
-
-  -- is a text over 256 among those of a line, or of the lines behind it?
-  abbrev pub long_in : ℕ → ℕ → List Filled → Bool
-  long_in at n fs = some_row is_long fs || some_row is_long (filled_on (suc n) id name text (next_line text at))
-
-  -- one of the line's topics from a place on, of `most` at the most, or of the lines behind it has one exactly if one of all has
-  abbrev pub OverIn : ℕ → ℕ → Option ℕ → Type 0
-  OverIn at most place = (n : ℕ) × (long_in at n (filled_from most n id name (line_at text at) place) ≡ over_filled text id name)
-
-  pub over_start : OverOn 0
-  unfolding over_filled
-  over_start = (0, ap (some_row is_long) (on_start 0 id name text))
-
-  -- no line is left
-  pub over_done : (at : ℕ) → length text ≤ at → OverOn at → false ≡ over_filled text id name
-  unfolding some_row
-  over_done at h w = sym (ap (some_row is_long) (on_past w.0 id name text at h)) ∙ w.1
-
-  module _ (at : ℕ) where
-    -- a line, from its first topic on
-    pub over_line : {first : Option ℕ} → at < length text → first ≡ first_topic (line_at text at) → OverOn at → OverIn at (length text) first
-    over_line h e w =
-        let parts = ap (some_row is_long) (on_line_lem w.0 id name text at (length text) h (omega arith)) ∙ some_append is_long _ _ in
-        (w.0, ap (λ (p : Option ℕ). long_in at w.0 (filled_from (length text) w.0 id name (line_at text at) p)) e ∙ (sym parts ∙ w.1))
-
-    -- no topic is left
-    pub over_nowhere : (most : ℕ) {place : Option ℕ} → place ≡ None → OverIn at most place → OverIn at 0 place
-    over_nowhere most {place} e w =
-        let none_left = walk_out w.0 id name (line_at text at) 0 place (omega arith) ∙ sym (walk_end w.0 id name (line_at text at) most e) in
-        (w.0, ap (long_in at w.0) none_left ∙ w.1)
-
-    pub over_next : (most : ℕ) (place : Option ℕ) {next : ℕ} → most ≤ 0 → next ≡ next_line text at → OverIn at most place → OverOn next
-    unfolding some_row
-    over_next most place h e w =
-        let passed = ap (long_in at w.0) (walk_out w.0 id name (line_at text at) most place h) in
-        (suc w.0, ap (λ (next : ℕ). some_row is_long (filled_on (suc w.0) id name text next)) e ∙ (sym passed ∙ w.1))
-
-    -- a topic whose filled text is over 256 or not
-    module _ (most : ℕ) {place : Option ℕ} {p : ℕ} {answer : FilledTopic} {room : ℕ} (small : length id ≤ id_limit) (whole : room ≡ text_limit) (k : 0 < most) (e : place ≡ Some p)
-        (told : answer ≡ topic_filling room id name (template_at (line_at text at) p)) (w : OverIn at most place) where
-      pub over_topic : {b : Bool} → is_over answer ≡ b
-          → (b || long_in at w.0 (filled_from (most - 1) w.0 id name (line_at text at) (next_topic (line_at text at) p))) ≡ over_filled text id name
-      over_topic {b} q =
-          let here = topic_over w.0 id name (line_at text at) p small whole told ∙ q in
-          let one = ap (some_row is_long) (walk_topic w.0 id name (line_at text at) most k e) ∙ some_append is_long _ _ in
-          let onward = some_row is_long (filled_from (most - 1) w.0 id name (line_at text at) (next_topic (line_at text at) p)) in
-          let rest = some_row is_long (filled_on (suc w.0) id name text (next_line text at)) in
-          sym (or_assoc b onward rest) ∙ (sym (ap (λ (x : Bool). x || rest) (one ∙ ap (λ (x : Bool). x || onward) here)) ∙ w.1)
-
-      pub over_found : is_over answer ≡ true → true ≡ over_filled text id name
-      over_found q = over_topic q
-
-      pub over_onward : {next : Option ℕ} → is_over answer ≡ false → next ≡ next_topic (line_at text at) p → OverIn at (most - 1) next
-      over_onward q f =
-          (w.0, ap (λ (p : Option ℕ). long_in at w.0 (filled_from (most - 1) w.0 id name (line_at text at) p)) f ∙ over_topic q)

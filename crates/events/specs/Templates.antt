@@ -1,8 +1,9 @@
 -- The templates of a rule text by places: what the functions of templates.rt answer.
 use Rattle.std.specs.Prelude.{ℕ, zero, suc, Bool, ◌&&◌, not, cond, List, [], ◌∷◌, ◌++◌, Option, None, Some, Result, Ok, Err}
+use Rattle.std.specs.List.{list_any}
 use Rattle.text.specs.Maybe.{bind}
 use Rattle.json_text.specs.Json.{line_value}
-use Rattle.json_text.specs.Access.{first_item, next_item}
+use Rattle.json_text.specs.Access.{first_item, next_item, places_from}
 use Rattle.table.specs.Table.{some_row}
 use Rattle.rule.specs.Limits.{text_limit}
 use Rattle.rule.specs.Rule.{Rule, TopicOf, topic_of, topic_means, is_template}
@@ -59,6 +60,13 @@ filled_from zero n id name line place = []
 filled_from (suc most) n id name line None = []
 filled_from (suc most) n id name line (Some p) =
     filled_template n id name (template_at line p) ++ filled_from most n id name line (next_topic line p)
+
+-- the topic at a place is filled to a text over 256, and so is one of a line's
+unfoldable pub topic_over : List ℕ → Option (List ℕ) → List ℕ → ℕ → Bool
+topic_over id name line p = some_row (λ (f : Filled). over text_limit f.text) (filled_template 0 id name (template_at line p))
+
+unfoldable pub line_over : List ℕ → Option (List ℕ) → List ℕ → Bool
+line_over id name line = list_any (topic_over id name line) (places_from line (first_topic line))
 
 -- "7 a text over 256 after both replacements"
 unfoldable pub over_filled : List ℕ → List ℕ → Option (List ℕ) → Bool

@@ -1,4 +1,5 @@
-// Connected: the filled templates become rows of the three tables.
+// Connected: the filled templates become rows of the three tables. `connected` takes its texts one by one, as the C interface hands them over;
+// inside, who connects is one value.
 ghost use Rattle.std.specs.Option.{option_copied};
 ghost use Rattle.std.specs.Prelude.{◌≡◌, ◌≤◌, ◌+◌, ◌-◌, false, length, take, drop, None, Some};
 ghost use Rattle.json_text.specs.Lines.{lines};
@@ -11,9 +12,9 @@ ghost use Rattle.events.specs.Event as event;
 ghost use Rattle.events.specs.Templates as templates;
 ghost use Rattle.events.specs.Pushes as spec;
 
-use crate::templates::{fill_topic, first_topic, next_topic};
+use crate::templates::{fill_in, topics};
 use crate::{FilledTopic, Table};
-use json_text::splitting::next_line;
+use json_text::splitting::Lines;
 use rule::{ID, Refusal, TEXT};
 use store::rows::{put_filter, put_numbered};
 use store::{Counts, SESSIONS, Shape, check};
@@ -21,15 +22,17 @@ use table::{Pushed, push, put_number, restore};
 use text::front;
 use topic::valid_filter;
 
-// Who connects: the session, the client id and the user name, if one is given.
+// Who connects: the session, the client id, which isn't over the limit, and the user name, if one is given.
 #[derive(Clone, Copy)]
 struct Connecting<'a> {
     session: u16,
     id: &'a [u8],
     name: Option<&'a [u8]>,
+    ghost short: { length id.now ≤ id_limit },
 }
 
-// Pushes a filled filter, if it is valid, as a filter row owned by the client.
+// Pushes a filled filter, if it is valid, as a filter row owned by the client. Beside `push_numbered`: one function for both would take the
+// row's size, how it is written and an owner that may be absent.
 fn push_filter(part: &mut [u8], used: usize, rule: u16, text: &[u8], id: &[u8]) -> Pushed
     ensures value { result ≡ spec.pushes_answer (spec.filter_bytes rule text.now id.now) used part.old }
     ensures part_after { part.new ≡ spec.pushes (spec.filter_bytes rule text.now id.now) used part.old }
@@ -86,7 +89,6 @@ fn push_rows(
     earlier: usize,
     who: Connecting,
 ) -> Option<usize>
-    requires id_len_bound { length who.id.now ≤ id_limit }
     requires few_lines { length (lines rules.now) ≤ lines_limit }
     requires none_over { templates.over_filled rules.now who.id.now (option_copied who.name) ≡ false }
     ensures value { result ≡ spec.all_answer (spec.new_bytes table who.entry.session rules.now who.entry.id.now (option_copied who.entry.name)) earlier part.old }
@@ -94,17 +96,10 @@ fn push_rows(
 {
     let mut used = earlier;
     let mut rule = 0;
-    let mut at = 0;
-    while at < rules.len() {
-        let mut next = first_topic(rules, at);
-        // Each topic takes a byte of the text at least, so there are no more than bytes.
-        for _ in 0..rules.len() {
-            let Some(p) = next else {
-                break;
-            };
+    for line in Lines::new(rules) {
+        for p in topics(line) {
             let mut text = [0u8; TEXT];
-            let topic = fill_topic(rules, at, p, who.id, who.name, &mut text);
-            next = next_topic(rules, at, p);
+            let topic = fill_in(line, p, who.id, who.name, &mut text);
             match push_topic(part, used, table, rule, who, topic, &text) {
                 Pushed::Present => {}
                 Pushed::Added => {
@@ -115,7 +110,6 @@ fn push_rows(
                 }
             }
         }
-        at = next_line(rules, at);
         rule += 1;
     }
     Some(used)
@@ -123,7 +117,6 @@ fn push_rows(
 
 // The same for a table of the store, which is written through its own stretch; the rule text stands before the tables.
 fn push_all(store: &mut [u8], shape: Shape, table: Table, who: Connecting) -> Option<usize>
-    requires id_len_bound { length who.id.now ≤ id_limit }
     requires in_order { (16 + shape.text ≤ spec.table_at table shape.counts) × (spec.table_at table shape.counts ≤ spec.table_end table shape.counts) × (spec.table_end table shape.counts ≤ length store.old) }
     requires few_lines { length (lines (drop 16 (take (16 + shape.text) store.old))) ≤ lines_limit }
     requires none_over { templates.over_filled (drop 16 (take (16 + shape.text) store.old)) who.id.now (option_copied who.name) ≡ false }
@@ -143,29 +136,29 @@ fn push_all(store: &mut [u8], shape: Shape, table: Table, who: Connecting) -> Op
     )
 }
 
-// "7 a text over 256 after both replacements": is there one? The walk is that of `push_rows`. One walk for both would take what to do with
-// a text as a closure, and its contract with the state between two calls is longer than these loops.
+// Is the topic at this place a template whose text is over 256, filled for the client?
+fn topic_over(line: &[u8], topic: usize, who: Connecting) -> bool
+    ensures { result ≡ templates.topic_over who.entry.id.now (option_copied who.entry.name) line.now topic }
+{
+    let mut text = [0u8; TEXT];
+    matches!(
+        fill_in(line, topic, who.id, who.name, &mut text),
+        FilledTopic::TooLong
+    )
+}
+
+// Is one of a line's?
+fn line_over(line: &[u8], who: Connecting) -> bool
+    ensures { result ≡ templates.line_over who.entry.id.now (option_copied who.entry.name) line.now }
+{
+    topics(line).any(|p| topic_over(line, p, who))
+}
+
+// "7 a text over 256 after both replacements": is there one?
 fn over_filled(rules: &[u8], who: Connecting) -> bool
-    requires { length who.id.now ≤ id_limit }
     ensures { result ≡ templates.over_filled rules.now who.entry.id.now (option_copied who.entry.name) }
 {
-    let mut at = 0;
-    while at < rules.len() {
-        let mut next = first_topic(rules, at);
-        // As many topics as may come, as in `push_rows`.
-        for _ in 0..rules.len() {
-            let Some(p) = next else {
-                break;
-            };
-            let mut text = [0u8; TEXT];
-            if let FilledTopic::TooLong = fill_topic(rules, at, p, who.id, who.name, &mut text) {
-                return true;
-            }
-            next = next_topic(rules, at, p);
-        }
-        at = next_line(rules, at);
-    }
-    false
+    Lines::new(rules).any(|line| line_over(line, who))
 }
 
 // Puts back the three tables to the rows used earlier: these many filter, eq and note rows are used now.
@@ -173,11 +166,10 @@ fn over_filled(rules: &[u8], who: Connecting) -> bool
 fn put_back(store: &mut [u8], shape: Shape, filters: usize, eqs: usize, notes: usize)
     ensures { store.new ≡ spec.put_back shape filters eqs notes store.old }
 {
-    let counts = shape.counts;
-    let filters_at = counts.filters_at();
-    let eqs_at = counts.eqs_at();
-    let notes_at = counts.notes_at();
-    let end = counts.length();
+    let filters_at = shape.counts.filters_at();
+    let eqs_at = shape.counts.eqs_at();
+    let notes_at = shape.counts.notes_at();
+    let end = shape.counts.length();
     if store.len() < end {
         return;
     }
@@ -199,23 +191,28 @@ fn fill_tables(store: &mut [u8], shape: Shape, who: Connecting) -> Result<(), Re
     ensures result_value { event.says result ≡ event.cause (event.connected who.entry.session who.entry.id.now (option_copied who.entry.name)) (view store.old) }
     ensures store_after { store.new ≡ event.after (event.connected who.entry.session who.entry.id.now (option_copied who.entry.name)) store.old }
 {
-    let counts = shape.counts;
     let Some(filters) = push_all(store, shape, Table::Filters, who) else {
         put_back(
             store,
             shape,
-            counts.filters as usize,
+            shape.counts.filters as usize,
             shape.eqs,
             shape.notes,
         );
         return Err(Refusal::FiltersFull);
     };
     let Some(eqs) = push_all(store, shape, Table::Eqs, who) else {
-        put_back(store, shape, filters, counts.eqs as usize, shape.notes);
+        put_back(
+            store,
+            shape,
+            filters,
+            shape.counts.eqs as usize,
+            shape.notes,
+        );
         return Err(Refusal::EqsFull);
     };
     let Some(notes) = push_all(store, shape, Table::Notes, who) else {
-        put_back(store, shape, filters, eqs, counts.notes as usize);
+        put_back(store, shape, filters, eqs, shape.counts.notes as usize);
         return Err(Refusal::NotesFull);
     };
     put_number(store, 10, filters as u16);

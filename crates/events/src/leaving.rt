@@ -1,4 +1,5 @@
-// Disconnected and session end: the rows that pass a test are removed through their table's stretch.
+// Disconnected and session end: the rows that pass a test are removed through their table's stretch. The arguments come one by one, as the C
+// interface hands them over.
 ghost use Rattle.std.specs.Prelude.{◌≡◌, ◌&&◌, length};
 ghost use Rattle.topic.specs.Topic as filters;
 ghost use Rattle.table.specs.Table.{some_row};
@@ -91,13 +92,10 @@ pub fn disconnected(store: &mut [u8], session: u64, id: &[u8]) -> Result<(), Ref
     if SESSIONS <= session as usize {
         return Err(Refusal::OutOfRange);
     }
-    let Some(shape) = check::shape(store) else {
-        return Err(Refusal::Malformed);
-    };
-    let counts = shape.counts;
-    let filters_at = counts.filters_at();
-    let eqs_at = counts.eqs_at();
-    let (front, notes) = store.split_at_mut(counts.notes_at());
+    let shape = check::shape(store).ok_or(Refusal::Malformed)?;
+    let filters_at = shape.counts.filters_at();
+    let eqs_at = shape.counts.eqs_at();
+    let (front, notes) = store.split_at_mut(shape.counts.notes_at());
     let stay = remove_cleared(
         &mut front[filters_at..eqs_at],
         shape.filters,
@@ -117,9 +115,7 @@ pub fn ended(store: &mut [u8], session: u64) -> Result<(), Refusal>
     if SESSIONS <= session as usize {
         return Err(Refusal::OutOfRange);
     }
-    let Some(shape) = check::shape(store) else {
-        return Err(Refusal::Malformed);
-    };
+    let shape = check::shape(store).ok_or(Refusal::Malformed)?;
     let notes_at = shape.counts.notes_at();
     let end = shape.counts.length();
     let test = NotesOf {

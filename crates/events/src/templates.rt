@@ -1,24 +1,41 @@
-// The templates of a rule text, filled for a client, in rule and template order: rules by the places where their lines begin, topics by
-// their places in the line.
+// The templates of a rule text, filled for a client, in rule and template order: topics by their places in a line. The public functions take a
+// line by the place in the text where it begins.
 ghost use Rattle.std.specs.Option.{option_copied};
 ghost use Rattle.std.specs.Prelude.{◌≡◌, length};
 ghost use Rattle.json_text.specs.Lines.{line_at};
 ghost use Rattle.events.specs.Templates as spec;
 
 use crate::FilledTopic;
-use json_text::access::{first_element, next_item};
+use json_text::access::{Elements, first_element, next_item};
 use json_text::splitting::line_at;
 use rule::Topic;
 use rule::fill::fill;
 use rule::read::read_rule;
 use rule::topic_list::topic_at;
 
+// The first topic of a line's rule.
+fn first_in(line: &[u8]) -> Option<usize>
+    ensures { result ≡ spec.first_topic line.now }
+{
+    first_element(line, read_rule(line).ok()?.topics?)
+}
+
+// The topics of a line's rule, one after another.
+pub(crate) fn topics(line: &[u8]) -> Elements<'_>
+    ensures of_line { result.line ≡ line.entry }
+    ensures from_first { result.next ≡ spec.first_topic line.now }
+{
+    Elements {
+        line,
+        next: first_in(line),
+    }
+}
+
 // The first topic of the rule whose line begins at `at`.
 pub fn first_topic(rules: &[u8], at: usize) -> Option<usize>
     ensures { result ≡ spec.first_topic (line_at rules.now at) }
 {
-    let line = line_at(rules, at);
-    first_element(line, read_rule(line).ok()?.topics?)
+    first_in(line_at(rules, at))
 }
 
 // The topic behind the one at this place.
@@ -29,6 +46,7 @@ pub fn next_topic(rules: &[u8], at: usize, topic: usize) -> Option<usize>
     next_item(line_at(rules, at), topic)
 }
 
+// What filling a template comes to. `eq` is a value, whether the topic stands under `eq`, and not a switch.
 #[tactic(auto, unfolding(crate::specs::Templates::filled_as))]
 fn filled_as(eq: bool, filling: Option<usize>) -> FilledTopic
     ensures { result ≡ spec.filled_as eq filling }
@@ -40,7 +58,28 @@ fn filled_as(eq: bool, filling: Option<usize>) -> FilledTopic
     }
 }
 
-// The topic at this place, if it is a template, filled into the front of a buffer of 256 bytes.
+// The topic at this place of a line, if it is a template, filled into the front of a buffer of 256 bytes.
+pub(crate) fn fill_in(
+    line: &[u8],
+    topic: usize,
+    id: &[u8],
+    name: Option<&[u8]>,
+    buffer: &mut [u8],
+) -> FilledTopic
+    ensures value { result ≡ spec.topic_filling (length buffer.old) id.now (option_copied name.entry) (spec.template_at line.now topic) }
+    ensures buffer_after { buffer.new ≡ spec.topic_filled buffer.old id.now (option_copied name.entry) (spec.template_at line.now topic) }
+{
+    let Some(found) = topic_at(line, topic) else {
+        return FilledTopic::Static;
+    };
+    match found {
+        Topic::Template(p) => filled_as(false, fill(line, p, id, name, buffer)),
+        Topic::EqTemplate(p) => filled_as(true, fill(line, p, id, name, buffer)),
+        _ => FilledTopic::Static,
+    }
+}
+
+// The same of the line that begins at `at`.
 pub fn fill_topic(
     rules: &[u8],
     at: usize,
@@ -52,13 +91,5 @@ pub fn fill_topic(
     ensures value { result ≡ spec.topic_filling (length buffer.old) id.now (option_copied name.entry) (spec.template_at (line_at rules.now at) topic) }
     ensures buffer_after { buffer.new ≡ spec.topic_filled buffer.old id.now (option_copied name.entry) (spec.template_at (line_at rules.now at) topic) }
 {
-    let line = line_at(rules, at);
-    let Some(found) = topic_at(line, topic) else {
-        return FilledTopic::Static;
-    };
-    match found {
-        Topic::Template(p) => filled_as(false, fill(line, p, id, name, buffer)),
-        Topic::EqTemplate(p) => filled_as(true, fill(line, p, id, name, buffer)),
-        _ => FilledTopic::Static,
-    }
+    fill_in(line_at(rules, at), topic, id, name, buffer)
 }

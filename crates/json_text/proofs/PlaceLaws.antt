@@ -103,3 +103,25 @@ pub array_places : (line : List ℕ) (at : ℕ) {r : Read Json} {es : Elements} 
 array_places line at {r} {es} e q =
     let is = array_is line at e q in
     ap (places_from line) is.first ∙ in_places line (at + 1) r.next es is.elements
+
+-- there are no more of them than the line has bytes
+first_within : (line : List ℕ) (at : ℕ) → left_from line (first_item 0x5b 0x5d line at) ≤ length line
+unfolding first_item
+first_within line at = by (is_at line at 0x5b) (is_at line p 0x5d) refl
+  where
+    p : ℕ
+    p = skip_blanks line (at + 1)
+
+    by : (opens closes : Bool) → is_at line at 0x5b ≡ opens → left_from line (cond opens (cond closes None (Some p)) None) ≤ length line
+    by true true e = omega arith
+    by true false e =
+        let within = at_within line at 0x5b (omega arith) e in
+        let behind = blanks_from line (at + 1) in
+        let inside = blanks_within line (at + 1) (omega arith) in
+        omega arith
+    by false closes e = omega arith
+
+pub places_few : (line : List ℕ) (at : ℕ) → places_from line (first_item 0x5b 0x5d line at) ≡ places (length line) line (first_item 0x5b 0x5d line at)
+unfolding places_from
+places_few line at =
+    let within = first_within line at in places_enough (suc (length line)) (length line) line (first_item 0x5b 0x5d line at) (omega arith) (omega arith)

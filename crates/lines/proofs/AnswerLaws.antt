@@ -1,6 +1,5 @@
 -- A line's call by the form of its word, and what is said and done by it. Assumes nothing.
-use Prim.Native.Nat.{ℕ, ◌≤◌, ◌<◌}
-use native.Mathlib.Omega.{arith}
+use Prim.Native.Nat.{ℕ, ◌≤◌}
 use mathlib.Core.Path.{◌≡◌, refl, sym, ap, ◌∙◌}
 use mathlib.Core.Bool.{Bool, true, false, cond}
 use mathlib.Core.List.{List}
@@ -8,28 +7,27 @@ use Rattle.std.specs.Prelude.{Option, None, Some}
 use Rattle.std.specs.Option.{option_map, unwrap_or}
 use Rattle.text.specs.Maybe.{bind}
 use Rattle.std.proofs.lemmas.Option.{none-some}
-use borrow.Author.Tests.{lt-ltb, le-ltb}
+use borrow.Author.Tests.{le-ltb}
 use lib.Dec.{eqb}
 use lib.ListN.{length}
 use Rattle.text.specs.Ascii.{ascii}
 use Rattle.text.specs.Text.{same}
-use Rattle.json_text.specs.Json.{Json, null, bool, number, text, array, object, Elements, read_as, skip_blanks, is_at, value_at, array_at, line_value}
+use Rattle.json_text.specs.Json.{Json, array, Elements, read_as, is_at, value_at, array_at, line_value}
 use Rattle.json_text.specs.declared.Read.{Read}
-use Rattle.json_text.specs.Access.{is_document, value_here, first_item, bracketed, count}
-use Rattle.json_text.proofs.AccessSteps.{opens_here, first_by_lem}
-use Rattle.json_text.proofs.AccessLaws.{line_is}
+use Rattle.json_text.specs.Access.{value_here, bracketed, count}
+use Rattle.json_text.proofs.AccessSteps.{opens_here}
 use Rattle.rule.specs.Limits.{line_limit}
 use Rattle.rule.specs.Rule.{nth}
 use Rattle.questions.specs.Question.{Question}
 use Rattle.lines.specs.Call.{Call, asks, as_string, is_given, asker_in, having, connect_in, subscribe_in, publish_in, connected_in, disconnected_in, ended_in, call_by, call_in, call_from, call_of}
 use Rattle.lines.specs.Said.{malformed, call_said, call_done, line_said, line_done}
-use Rattle.reader.specs.Reader.{offset_of, place_at, first_offset, offset_after, element_after, fields_here}
-use Rattle.lines.specs.Reading.{EachArray, word_from, form_here}
+use Rattle.reader.specs.Reader.{fields_here}
+use Rattle.lines.specs.Reading.{word_from, form_here}
 use Rattle.reader.specs.declared.Fields.{Fields}
 use Rattle.lines.specs.declared.Form.{Form}
 use Rattle.lines.specs.declared.Form.TheVariants.{Connect, Subscribe, Publish, Connected, Disconnected, Ended}
 use Rattle.lines.specs.declared.Said.{Said}
-use Rattle.lines.proofs.ElementLaws.{end_place, element_stands, fields_are, is_text, word_element}
+use Rattle.lines.proofs.ElementLaws.{element_stands, fields_are, is_text, word_element}
 
 -- ---- the form, by the word
 
@@ -95,57 +93,17 @@ array_opens line at {r} e o = by (array_at (value_at 7 line) line at) (sym (open
     by None q = absurd (none-some _ q)
     by (Some x) q = let k : record { value = array x.value; next = x.next } ≡ r = cc in (x.value, sym (ap (λ (r : Read Json). r.value) k))
 
-no_word : (line : List ℕ) {v : Json} → line_value line ≡ Some v → ((es : Elements) → v ≡ array es → ⊥) → form_here line (fields_here line).first ≡ None
-unfolding fields_here element_after offset_after first_offset
-no_word line e h =
-    ap (form_here line) (ap (λ (p : Option ℕ). place_at line (offset_of line p)) (by (is_at line (skip_blanks line 0) 0x5b) refl) ∙ end_place line)
-    ∙ unfold form_here word_from in refl
-  where
-    by : (b : Bool) → is_at line (skip_blanks line 0) 0x5b ≡ b → first_item 0x5b 0x5d line (skip_blanks line 0) ≡ None
-    by true o = let is = array_opens line (skip_blanks line 0) (line_is line e).1 o in absurd (h is.0 is.1)
-    by false o = first_by_lem 0x5b 0x5d line (skip_blanks line 0) o refl
-
 -- ---- the call of a line
-
-pub long_line : (line : List ℕ) → line_limit < length line → call_of line ≡ None
-unfolding call_of
-long_line line h = ap (λ (b : Bool). cond b None (bind (line_value line) call_from)) (lt-ltb line_limit (length line) h)
 
 short : (line : List ℕ) → length line ≤ line_limit → call_of line ≡ bind (line_value line) call_from
 unfolding call_of
 short line h = ap (λ (b : Bool). cond b None (bind (line_value line) call_from)) (le-ltb line_limit (length line) h)
 
-pub no_document : (line : List ℕ) → length line ≤ line_limit → is_document (line_value line) ≡ false → call_of line ≡ None
-no_document line h q = short line h ∙ by (line_value line) q
-  where
-    by : (o : Option Json) → is_document o ≡ false → bind o call_from ≡ None
-    by None q = unfold bind in refl
-    by (Some v) q = let z : true ≡ false = unfold is_document in q in cc
-
--- the line is an array with the call of its form, or it has none
-data Called (line : List ℕ) (form : Option Form) : Type 0 where
-  arrayed : (es : Elements) → line_value line ≡ Some (array es) → call_of line ≡ call_as form es → Called line form
-  uncalled : form ≡ None → call_of line ≡ None → Called line form
-
-called : (line : List ℕ) {form : Option Form} → length line ≤ line_limit → is_document (line_value line) ≡ true → form ≡ form_here line (fields_here line).first
-    → Called line form
-called line {form} h d q = by (line_value line) refl d
-  where
-    other : {v : Json} → line_value line ≡ Some v → ((es : Elements) → v ≡ array es → ⊥) → call_from v ≡ None → Called line form
-    other {v} e k n = uncalled (q ∙ no_word line e k) (short line h ∙ (ap (λ (o : Option Json). bind o call_from) e ∙ unfold bind in n))
-
-    by : (o : Option Json) → line_value line ≡ o → is_document o ≡ true → Called line form
-    by None e d = let z : false ≡ true = unfold is_document in d in absurd (let y : ◌≡◌ {A = ℕ} 0 1 = cc in omega arith)
-    by (Some null) e d = other e (λ es k. let z : ◌≡◌ {A = ℕ} 0 1 = cc in omega arith) (unfold call_from in refl)
-    by (Some (bool b)) e d = other e (λ es k. let z : ◌≡◌ {A = ℕ} 0 1 = cc in omega arith) (unfold call_from in refl)
-    by (Some (number n)) e d = other e (λ es k. let z : ◌≡◌ {A = ℕ} 0 1 = cc in omega arith) (unfold call_from in refl)
-    by (Some (text t)) e d = other e (λ es k. let z : ◌≡◌ {A = ℕ} 0 1 = cc in omega arith) (unfold call_from in refl)
-    by (Some (object ms)) e d = other e (λ es k. let z : ◌≡◌ {A = ℕ} 0 1 = cc in omega arith) (unfold call_from in refl)
-    by (Some (array es)) e d =
-        arrayed es e
-        (short line h
-        ∙ (ap (λ (o : Option Json). bind o call_from) e
-        ∙ (array_call es ∙ ap (λ (f : Option Form). call_as f es) (sym (q ∙ form_is line es e)))))
+-- of an array it is that of its form
+form_call : (line : List ℕ) (es : Elements) {form : Option Form} → length line ≤ line_limit → line_value line ≡ Some (array es) → form ≡ form_here line (fields_here line).first
+    → call_of line ≡ call_as form es
+form_call line es h e q =
+    short line h ∙ (ap (λ (o : Option Json). bind o call_from) e ∙ (unfold bind call_from in array_call es ∙ ap (λ (f : Option Form). call_as f es) (sym (q ∙ form_is line es e))))
 
 -- ---- what is said and done by it
 
@@ -157,32 +115,23 @@ none_said line s r q = (
   sym (ap (λ (o : Option Call). call_done o s) q),
 )
 
-module _ (line s : List ℕ) (short : length line ≤ line_limit) (is : is_document (line_value line) ≡ true) {f : Fields} (at : f ≡ fields_here line)
+module _ (line s : List ℕ) (es : Elements) (short : length line ≤ line_limit) (is : line_value line ≡ Some (array es)) {f : Fields} (at : f ≡ fields_here line)
     {form : Option Form} (formed : form ≡ form_here line f.first) where
-  calls : Called line form
-  calls = called line short is (formed ∙ ap (λ (f : Fields). form_here line f.first) at)
+  called : call_of line ≡ call_as form es
+  called = form_call line es short is (formed ∙ ap (λ (f : Fields). form_here line f.first) at)
 
   -- a form that isn't known
   pub unknown_said : {r : Option Said} → r ≡ None → form ≡ None → (unwrap_or r malformed ≡ line_said line s) × (s ≡ line_done line s)
   unfolding call_as
-  unknown_said r k = none_said line s r (by calls)
-    where
-      by : Called line form → call_of line ≡ None
-      by (arrayed es e q) = q ∙ ap (λ (f : Option Form). call_as f es) k
-      by (uncalled u q) = q
+  unknown_said r k = none_said line s r (called ∙ ap (λ (f : Option Form). call_as f es) k)
 
-  -- one that is: an array, with the call
-  pub known_said : (known : Form) {r : Said} {last : List ℕ} → form ≡ Some known
-      → EachArray line f (λ es. r ≡ call_said (call_as (Some known) es) s) → EachArray line f (λ es. last ≡ call_done (call_as (Some known) es) s)
+  -- one that is, with the call
+  pub known_said : (known : Form) {r : Said} {last : List ℕ} → form ≡ Some known → r ≡ call_said (call_as (Some known) es) s → last ≡ call_done (call_as (Some known) es) s
       → (r ≡ line_said line s) × (last ≡ line_done line s)
   unfolding line_said line_done
-  known_said known {r} {last} k g h = by calls
-    where
-      by : Called line form → (r ≡ line_said line s) × (last ≡ line_done line s)
-      by (arrayed es e q) =
-          let is = q ∙ ap (λ (f : Option Form). call_as f es) k in
-          (g es e at ∙ sym (ap (λ (o : Option Call). call_said o s) is), h es e at ∙ sym (ap (λ (o : Option Call). call_done o s) is))
-      by (uncalled n q) = absurd (none-some _ (sym n ∙ k))
+  known_said known k g h =
+      let is = called ∙ ap (λ (f : Option Form). call_as f es) k in
+      (g ∙ sym (ap (λ (o : Option Call). call_said o s) is), h ∙ sym (ap (λ (o : Option Call). call_done o s) is))
 
 -- a question leaves the store
 module _ (s : List ℕ) where

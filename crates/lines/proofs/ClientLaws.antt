@@ -26,16 +26,16 @@ use Rattle.rule.specs.Places.{place_of}
 use Rattle.authinfo.specs.Given.{given}
 use Rattle.rule.specs.Members.{truth_from}
 use Rattle.authinfo.specs.Decision.{Client, Question, subscribe, publish, Reply, ask}
-use Rattle.lines.specs.Call.{as_string, or_null}
+use Rattle.lines.specs.Call.{as_string, or_null, call_from, call_of}
 use Rattle.lines.specs.Client.{elements_of, array_of, client_in, subscribe_in, publish_in, question_by, question_in, reply_said, question_said, asked_by, client_said}
 use Rattle.lines.specs.Said.{refused_at}
 use Rattle.reader.specs.Reader.{fields_here}
-use Rattle.lines.specs.Reading.{string_from, given_from, form_here, is_array_line, nothing_at, with_name, with_truth, header_here}
+use Rattle.lines.specs.Reading.{elements_by, elements, string_from, given_from, form_here, is_array_line, nothing_at, with_name, with_truth, header_here}
 use Rattle.reader.specs.declared.Fields.{Fields}
 use Rattle.lines.specs.declared.Form.{Form}
 use Rattle.lines.specs.declared.Form.TheVariants.{Connect, Subscribe, Publish, Connected, Disconnected, Ended}
 use Rattle.lines.specs.declared.Said.{Said}
-use Rattle.lines.proofs.ElementLaws.{is_text, having_more, having_read, having-none, bind_none, is_more, truth_read, text_read, text_unread, given_read, given_unread, first as first_is, second, third, fourth}
+use Rattle.lines.proofs.ElementLaws.{zeros, roomy, is_text, having_more, having_read, having-none, bind_none, is_more, truth_read, text_read, text_unread, given_read, given_unread, first as first_is, second, third, fourth}
 use Rattle.lines.proofs.AnswerLaws.{form_by, form_is, array_opens}
 use Rattle.json_text.specs.declared.DecodeError.TheVariants.{NoText, TooLong}
 use Rattle.lines.specs.declared.Header.{Header}
@@ -265,17 +265,16 @@ module _ (line : List ℕ) (short : length line ≤ line_limit) (is : is_documen
       never e = k (ap kind_of (eqb-true (byte_at line first) 0x5b e) ∙ unfold kind_of between in refl)
 
 pub record ArrayLine (line : List ℕ) : Type 0 where
-  pub elements : Elements
   pub short : length line ≤ line_limit
-  pub value : line_value line ≡ Some (array elements)
-  pub is : array_of line ≡ Some elements
+  pub value : line_value line ≡ Some (array (elements line))
+  pub is : array_of line ≡ Some (elements line)
 
 array_of_lem : (line : List ℕ) (es : Elements) → ltb line_limit (length line) ≡ false → line_value line ≡ Some (array es) → array_of line ≡ Some es
 unfolding array_of elements_of bind
 array_of_lem line es t e = rw (t, e)
 
 pub array_line : (line : List ℕ) → is_array_line line ≡ true → ArrayLine line
-unfolding is_array_line
+unfolding is_array_line elements elements_by
 array_line line q =
     let h = and_split (not (ltb line_limit (length line))) (is_document (line_value line) && is_at line (skip_blanks line 0) 0x5b) q in
     let k = and_split (is_document (line_value line)) (is_at line (skip_blanks line 0) 0x5b) h.1 in
@@ -287,14 +286,37 @@ array_line line q =
     by false t n None e d a = unfold is_document in absurd (true≢false (sym d))
     by false t n (Some v) e d a =
         let r = array_opens line (skip_blanks line 0) (line_is line e).1 a in
-        let value = e ∙ ap Some r.1 in
-        record { elements = r.0; short = ltb-false line_limit (length line) t; value = value; is = array_of_lem line r.0 t value }
+        let found = e ∙ ap Some r.1 in
+        let value = found ∙ ap (λ es. Some (array es)) (sym (ap elements_by found)) in
+        record { short = ltb-false line_limit (length line) t; value = value; is = array_of_lem line (elements line) t value }
+
+-- the elements of an array, and each text of it fits
+pub array_stands : (line : List ℕ) → is_array_line line ≡ true → line_value line ≡ Some (array (elements line))
+array_stands line q = (array_line line q).value
+
+pub array_roomy : (line : List ℕ) → is_array_line line ≡ true → length line ≤ length zeros
+array_roomy line q = roomy line (array_line line q).short
 
 pub no_array : (line : List ℕ) → is_array_line line ≡ false → array_of line ≡ None
 unfolding is_array_line array_of is_document elements_of bind
 no_array line q = by (ltb line_limit (length line)) (line_value line) refl q
   where
     by : (b : Bool) (o : Option Json) → line_value line ≡ o → (not b && (is_document o && is_at line (skip_blanks line 0) 0x5b)) ≡ false → cond b None (bind o elements_of) ≡ None
+    by true o e k = refl
+    by false None e k = refl
+    by false (Some null) e k = refl
+    by false (Some (bool b)) e k = refl
+    by false (Some (number n)) e k = refl
+    by false (Some (text t)) e k = refl
+    by false (Some (object ms)) e k = refl
+    by false (Some (array es)) e k = absurd (true≢false (sym (opens line es e) ∙ k))
+
+-- and a line that is none has no call
+pub none_called : (line : List ℕ) → is_array_line line ≡ false → call_of line ≡ None
+unfolding is_array_line call_of is_document call_from bind
+none_called line q = by (ltb line_limit (length line)) (line_value line) refl q
+  where
+    by : (b : Bool) (o : Option Json) → line_value line ≡ o → (not b && (is_document o && is_at line (skip_blanks line 0) 0x5b)) ≡ false → cond b None (bind o call_from) ≡ None
     by true o e k = refl
     by false None e k = refl
     by false (Some null) e k = refl
@@ -317,7 +339,7 @@ module _ (header rules line : List ℕ) where
   unfolding bind
   no_header e h = no_client e (ap (λ (o : Option Elements). bind o client_in) (no_array header h))
 
-  pub bad_header : {r : Option Said} → r ≡ None → (h : ArrayLine header) → client_in h.elements ≡ None → unwrap_or r (refused_at 5 0) ≡ client_said header rules line
+  pub bad_header : {r : Option Said} → r ≡ None → (h : ArrayLine header) → client_in (elements header) ≡ None → unwrap_or r (refused_at 5 0) ≡ client_said header rules line
   unfolding bind
   bad_header e h k = no_client e (ap (λ (o : Option Elements). bind o client_in) h.is ∙ k)
 
@@ -333,7 +355,7 @@ module _ (header rules line : List ℕ) where
       by None = refl
       by (Some c) = refl
 
-  pub client_asks : {r : Said} (h : ArrayLine header) (l : ArrayLine line) {c : Client} → client_in h.elements ≡ Some c → r ≡ question_said c rules (question_in l.elements)
+  pub client_asks : {r : Said} (h : ArrayLine header) (l : ArrayLine line) {c : Client} → client_in (elements header) ≡ Some c → r ≡ question_said c rules (question_in (elements line))
       → r ≡ client_said header rules line
   unfolding client_said asked_by bind
   client_asks h l k e = rw (h.is, l.is, k) e

@@ -14,30 +14,21 @@ use Rattle.events.specs.Event as event
 use Rattle.events.specs.Event.{Event, cause, after}
 use Rattle.lines.specs.Call.{Call, happens, as_string, or_null, connected_in, disconnected_in, ended_in}
 use Rattle.lines.specs.Said.{malformed, cause_said, call_said, call_done}
-use Rattle.lines.specs.Reading.{EachArray}
-use Rattle.reader.specs.declared.Fields.{Fields}
 use Rattle.lines.specs.declared.Said.{Said}
 use Rattle.lines.proofs.ElementLaws.{having_more, having_read, having-none, bind_none}
 
 -- ---- what is said
 
-module _ (line s : List ℕ) (f : Fields) (call : Elements → Option Call) where
-  pub no_call : {r : Option Said} → r ≡ None → EachArray line f (λ es. call es ≡ None)
-      → EachArray line f (λ es. unwrap_or r malformed ≡ call_said (call es) s) × EachArray line f (λ es. s ≡ call_done (call es) s)
+module _ (s : List ℕ) {call : Option Call} where
+  pub no_call : {r : Option Said} → r ≡ None → call ≡ None → (unwrap_or r malformed ≡ call_said call s) × (s ≡ call_done call s)
   unfolding call_said call_done
-  no_call r none_is = (
-    λ es e q. ap (λ (r : Option Said). unwrap_or r malformed) r ∙ sym (ap (λ (o : Option Call). call_said o s) (none_is es e q)),
-    λ es e q. sym (ap (λ (o : Option Call). call_done o s) (none_is es e q)),
-  )
+  no_call r none_is =
+      (ap (λ (r : Option Said). unwrap_or r malformed) r ∙ sym (ap (λ (o : Option Call). call_said o s) none_is), sym (ap (λ (o : Option Call). call_done o s) none_is))
 
   pub event_call : (x : Event) {caused : Option ℕ} {r : Said} {last : List ℕ} → r ≡ cause_said caused → caused ≡ cause x (view s) → last ≡ after x s
-      → EachArray line f (λ es. call es ≡ Some (happens x))
-      → EachArray line f (λ es. r ≡ call_said (call es) s) × EachArray line f (λ es. last ≡ call_done (call es) s)
+      → call ≡ Some (happens x) → (r ≡ call_said call s) × (last ≡ call_done call s)
   unfolding call_said call_done
-  event_call x r p l is = (
-    λ es e q. r ∙ (ap cause_said p ∙ sym (ap (λ (o : Option Call). call_said o s) (is es e q))),
-    λ es e q. l ∙ sym (ap (λ (o : Option Call). call_done o s) (is es e q)),
-  )
+  event_call x r p l is = (r ∙ (ap cause_said p ∙ sym (ap (λ (o : Option Call). call_said o s) is)), l ∙ sym (ap (λ (o : Option Call). call_done o s) is))
 
 -- ---- the calls, by what is read
 

@@ -1,14 +1,13 @@
 -- What the functions that read a line answer, by the places of its elements.
-use Rattle.std.specs.Prelude.{ℕ, ◌≡◌, Bool, true, false, ◌&&◌, not, cond, List, ltb, leb, length, Option, None, Some, Result, Ok, Err}
+use Rattle.std.specs.Prelude.{ℕ, Bool, true, false, ◌&&◌, not, cond, List, ltb, leb, length, Option, None, Some, Result, Ok, Err}
 use Rattle.text.specs.Ascii.{ascii}
 use Rattle.json_text.specs.Strings.{Decoded, string_at}
-use Rattle.json_text.specs.Json.{array, Elements, is_at, skip_blanks, word_at, line_value}
+use Rattle.json_text.specs.Json.{Json, null, bool, number, text, array, object, Elements, no_element, is_at, skip_blanks, word_at, line_value}
 use Rattle.json_text.specs.Access.{string_is, literal_of, copied, is_document}
 use Rattle.json_text.specs.declared.Literal.{Literal}
 use Rattle.json_text.specs.declared.Literal.TheVariants.{Null, True, False}
 use Rattle.rule.specs.Limits.{line_limit}
 use Rattle.rule.specs.Members.{number_from, truth_from}
-use Rattle.reader.specs.Reader.{fields_here}
 use Rattle.reader.specs.declared.Fields.{Fields}
 use Rattle.lines.specs.declared.Form.{Form}
 use Rattle.lines.specs.declared.Form.TheVariants.{Connect, Subscribe, Publish, Connected, Disconnected, Ended}
@@ -17,9 +16,18 @@ use Rattle.lines.specs.declared.Asker.{Asker}
 use Rattle.lines.specs.declared.Header.{Header}
 use Rattle.json_text.specs.declared.DecodeError.{DecodeError}
 
--- of every array that the line has, if these are the places of its elements
-abbrev pub EachArray : List ℕ → Fields → (Elements → Type 0) → Type 0
-EachArray line f holds = (es : Elements) → line_value line ≡ Some (array es) → f ≡ fields_here line → holds es
+-- the elements of a line that is an array
+unfoldable pub elements_by : Option Json → Elements
+elements_by None = no_element
+elements_by (Some null) = no_element
+elements_by (Some (bool b)) = no_element
+elements_by (Some (number n)) = no_element
+elements_by (Some (text t)) = no_element
+elements_by (Some (array es)) = es
+elements_by (Some (object ms)) = no_element
+
+unfoldable pub elements : List ℕ → Elements
+elements line = elements_by (line_value line)
 
 -- the string at a place, if there is one
 unfoldable pub string_from : List ℕ → Option ℕ → Option Decoded

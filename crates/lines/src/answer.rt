@@ -3,31 +3,26 @@ ghost use Rattle.std.specs.Prelude.{◌≡◌};
 ghost use Rattle.std.specs.Option.{unwrap_or};
 ghost use Rattle.lines.specs.Said as said;
 
+use crate::array::Array;
 use crate::asking::{ask_connect, ask_publish, ask_subscribe};
 use crate::elements::form;
 use crate::happening::{on_connected, on_disconnected, on_ended};
 use crate::output::malformed;
 use crate::{Form, Said};
-use json_text::values::is_document;
-use reader::read_fields;
-use rule::LINE;
 
 // What is said of the line, if it is well formed.
 fn said_of(store: &mut [u8], line: &[u8]) -> Option<Said>
     ensures value { unwrap_or result said.malformed ≡ said.line_said line.now store.old }
     ensures store_after { store.new ≡ said.line_done line.now store.old }
 {
-    if LINE < line.len() || !is_document(line) {
-        return None;
-    }
-    let f = read_fields(line);
-    match form(line, f.first)? {
-        Form::Connect => ask_connect(store, line, f),
-        Form::Subscribe => ask_subscribe(store, line, f),
-        Form::Publish => ask_publish(store, line, f),
-        Form::Connected => on_connected(store, line, f),
-        Form::Disconnected => on_disconnected(store, line, f),
-        Form::Ended => on_ended(store, line, f),
+    let array = Array::read(line)?;
+    match form(line, array.at.first)? {
+        Form::Connect => ask_connect(store, &array),
+        Form::Subscribe => ask_subscribe(store, &array),
+        Form::Publish => ask_publish(store, &array),
+        Form::Connected => on_connected(store, &array),
+        Form::Disconnected => on_disconnected(store, &array),
+        Form::Ended => on_ended(store, &array),
     }
 }
 

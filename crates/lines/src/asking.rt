@@ -1,5 +1,5 @@
 // The three questions of a line.
-ghost use Rattle.std.specs.Prelude.{◌≡◌, true, cond, ◌≤◌, length, take, replicate};
+ghost use Rattle.std.specs.Prelude.{◌≡◌, true, cond, length, take, replicate};
 ghost use Rattle.std.specs.Option.{unwrap_or};
 ghost use Rattle.json_text.specs.Access.{decoded_into};
 ghost use Rattle.rule.specs.Limits.{line_limit};
@@ -11,6 +11,7 @@ ghost use Rattle.lines.specs.Call as call;
 ghost use Rattle.lines.specs.Said as said;
 ghost use Rattle.lines.specs.Reading as spec;
 
+use crate::array::Array;
 use crate::elements::{earlier_at, given_at, given_in, protocol_at, text_at};
 use crate::output::{refused, says};
 use crate::{Asker, Said, Word};
@@ -120,22 +121,22 @@ impl Texts {
 }
 
 // A connect line.
-pub(crate) fn ask_connect(store: &[u8], line: &[u8], f: Fields) -> Option<Said>
-    requires { length line.now ≤ line_limit }
-    ensures { spec.EachArray line.now f (λ es. unwrap_or result said.malformed ≡ said.call_said (call.connect_in es) store.now) }
+pub(crate) fn ask_connect(store: &[u8], array: &Array) -> Option<Said>
+    ensures { unwrap_or result said.malformed ≡ said.call_said (call.connect_in (spec.elements array.now.line.now)) store.now }
 {
-    if f.eighth.is_some() {
+    if array.at.eighth.is_some() {
         return None;
     }
     let mut texts = Texts::new();
-    let a = texts.asker_at(line, f)?;
+    let a = texts.asker_at(array.line, array.at)?;
     if a.protocol.is_none() {
         return None;
     }
     Some(connect_said(connect(store, a.earlier, &texts.client(a))))
 }
 
-// What is said of a question on a topic: publish, with the disconnect flag, or subscribe, with QoS 0.
+// What is said of a question on a topic: publish, with the disconnect flag, or subscribe, with QoS 0. `publishing` is a flag here and in
+// `ask_topic`, not a closure that asks: with one, the contract would say of each client and topic what `cond` says in a word.
 fn topic_said(store: &[u8], publishing: bool, earlier: u64, client: &Client, topic: &[u8]) -> Said
     ensures { result ≡ said.reply_said (decision.ask (cond publishing (question.publish earlier client.now topic.now true) (question.subscribe earlier client.now topic.now 0)) store.now) }
 {
@@ -147,17 +148,16 @@ fn topic_said(store: &[u8], publishing: bool, earlier: u64, client: &Client, top
 }
 
 // A line that asks on a topic, publish or subscribe.
-fn ask_topic(store: &[u8], publishing: bool, line: &[u8], f: Fields) -> Option<Said>
-    requires { length line.now ≤ line_limit }
-    ensures { spec.EachArray line.now f (λ es. unwrap_or result said.malformed ≡ said.call_said (cond publishing (call.publish_in es) (call.subscribe_in es)) store.now) }
+fn ask_topic(store: &[u8], publishing: bool, array: &Array) -> Option<Said>
+    ensures { unwrap_or result said.malformed ≡ said.call_said (cond publishing (call.publish_in (spec.elements array.now.line.now)) (call.subscribe_in (spec.elements array.now.line.now))) store.now }
 {
-    if f.ninth.is_some() {
+    if array.at.ninth.is_some() {
         return None;
     }
     let mut texts = Texts::new();
-    let a = texts.asker_at(line, f)?;
+    let a = texts.asker_at(array.line, array.at)?;
     let mut topics = [0; LINE];
-    let topic = text_at(line, f.eighth, &mut topics).ok()?;
+    let topic = text_at(array.line, array.at.eighth, &mut topics).ok()?;
     Some(topic_said(
         store,
         publishing,
@@ -168,17 +168,15 @@ fn ask_topic(store: &[u8], publishing: bool, line: &[u8], f: Fields) -> Option<S
 }
 
 // A subscribe line.
-pub(crate) fn ask_subscribe(store: &[u8], line: &[u8], f: Fields) -> Option<Said>
-    requires { length line.now ≤ line_limit }
-    ensures { spec.EachArray line.now f (λ es. unwrap_or result said.malformed ≡ said.call_said (call.subscribe_in es) store.now) }
+pub(crate) fn ask_subscribe(store: &[u8], array: &Array) -> Option<Said>
+    ensures { unwrap_or result said.malformed ≡ said.call_said (call.subscribe_in (spec.elements array.now.line.now)) store.now }
 {
-    ask_topic(store, false, line, f)
+    ask_topic(store, false, array)
 }
 
 // A publish line.
-pub(crate) fn ask_publish(store: &[u8], line: &[u8], f: Fields) -> Option<Said>
-    requires { length line.now ≤ line_limit }
-    ensures { spec.EachArray line.now f (λ es. unwrap_or result said.malformed ≡ said.call_said (call.publish_in es) store.now) }
+pub(crate) fn ask_publish(store: &[u8], array: &Array) -> Option<Said>
+    ensures { unwrap_or result said.malformed ≡ said.call_said (call.publish_in (spec.elements array.now.line.now)) store.now }
 {
-    ask_topic(store, true, line, f)
+    ask_topic(store, true, array)
 }

@@ -1,24 +1,21 @@
 // A question line of the program `client`, behind its first line and the client's rules.
-ghost use Rattle.std.specs.Prelude.{◌≡◌, ◌≤◌, length, Some};
+ghost use Rattle.std.specs.Prelude.{◌≡◌, length};
 ghost use Rattle.std.specs.Option.{unwrap_or};
-ghost use Rattle.json_text.specs.Json.{array, Elements, line_value};
 ghost use Rattle.json_text.specs.Access.{decoded_into};
-ghost use Rattle.rule.specs.Limits.{line_limit};
 ghost use Rattle.authinfo.specs.Given.{given};
 ghost use Rattle.authinfo.specs.Answers as answers;
 ghost use Rattle.lines.specs.Client as client;
 ghost use Rattle.lines.specs.Said as said;
 ghost use Rattle.lines.specs.Reading as spec;
 
+use crate::array::Array;
 use crate::elements::{form, given_at, text_at};
 use crate::output::{refused_at, says};
 use crate::{Form, Header, Said, Word};
 use authinfo::ask::{client_publish, client_subscribe};
 use authinfo::client::Client;
 use authinfo::{PublishAnswer, SubscribeAnswer};
-use json_text::Kind;
-use json_text::values::is_document;
-use reader::{Fields, first_kind, read_fields};
+use reader::Fields;
 use rule::listed::{number_at, truth_at};
 use rule::{Fault, LINE, Refusal};
 use text::front;
@@ -77,72 +74,57 @@ fn client_at(line: &[u8], f: Fields, ids: &mut [u8], names: &mut [u8]) -> Option
 }
 
 // A subscribe line.
-fn ask_subscribe(asker: &Client, rules: &[u8], line: &[u8], f: Fields) -> Option<Said>
-    requires { length line.now ≤ line_limit }
-    ensures { spec.EachArray line.now f (λ es. unwrap_or result (said.refused_at 5 0) ≡ client.question_said asker.now rules.now (client.subscribe_in es)) }
+fn ask_subscribe(asker: &Client, rules: &[u8], array: &Array) -> Option<Said>
+    ensures { unwrap_or result (said.refused_at 5 0) ≡ client.question_said asker.now rules.now (client.subscribe_in (spec.elements array.now.line.now)) }
 {
-    if f.fourth.is_some() {
+    if array.at.fourth.is_some() {
         return None;
     }
-    let qos = number_at(line, f.second)?;
+    let qos = number_at(array.line, array.at.second)?;
     let mut topics = [0; LINE];
-    let topic = text_at(line, f.third, &mut topics).ok()?;
+    let topic = text_at(array.line, array.at.third, &mut topics).ok()?;
     let answer = client_subscribe(asker, rules, qos, front(&topics, topic));
     Some(subscribe_said(answer))
 }
 
 // A publish line.
-fn ask_publish(asker: &Client, rules: &[u8], line: &[u8], f: Fields) -> Option<Said>
-    requires { length line.now ≤ line_limit }
-    ensures { spec.EachArray line.now f (λ es. unwrap_or result (said.refused_at 5 0) ≡ client.question_said asker.now rules.now (client.publish_in es)) }
+fn ask_publish(asker: &Client, rules: &[u8], array: &Array) -> Option<Said>
+    ensures { unwrap_or result (said.refused_at 5 0) ≡ client.question_said asker.now rules.now (client.publish_in (spec.elements array.now.line.now)) }
 {
-    if f.sixth.is_some() {
+    if array.at.sixth.is_some() {
         return None;
     }
-    let qos = number_at(line, f.second)?;
-    let retain = truth_at(line, f.third)?;
-    let disconnect = truth_at(line, f.fourth)?;
+    let qos = number_at(array.line, array.at.second)?;
+    let retain = truth_at(array.line, array.at.third)?;
+    let disconnect = truth_at(array.line, array.at.fourth)?;
     let mut topics = [0; LINE];
-    let topic = text_at(line, f.fifth, &mut topics).ok()?;
+    let topic = text_at(array.line, array.at.fifth, &mut topics).ok()?;
     let answer = client_publish(asker, rules, qos, retain, disconnect, front(&topics, topic));
     Some(publish_said(answer))
 }
 
 // A question line of a client.
-fn answer_question(asker: &Client, rules: &[u8], line: &[u8]) -> Option<Said>
-    requires { length line.now ≤ line_limit }
-    ensures { (es : Elements) → line_value line.now ≡ Some (array es) → unwrap_or result (said.refused_at 5 0) ≡ client.question_said asker.now rules.now (client.question_in es) }
+fn answer_question(asker: &Client, rules: &[u8], array: &Array) -> Option<Said>
+    ensures { unwrap_or result (said.refused_at 5 0) ≡ client.question_said asker.now rules.now (client.question_in (spec.elements array.now.line.now)) }
 {
-    let f = read_fields(line);
-    match form(line, f.first)? {
-        Form::Subscribe => ask_subscribe(asker, rules, line, f),
-        Form::Publish => ask_publish(asker, rules, line, f),
+    match form(array.line, array.at.first)? {
+        Form::Subscribe => ask_subscribe(asker, rules, array),
+        Form::Publish => ask_publish(asker, rules, array),
         _ => None,
     }
-}
-
-// Is it a line of JSON of at most 2,048 bytes, and an array?
-fn is_array(line: &[u8]) -> bool
-    ensures { result ≡ spec.is_array_line line.now }
-{
-    if LINE < line.len() || !is_document(line) {
-        return false;
-    }
-    matches!(first_kind(line), Kind::Array)
 }
 
 // What is said of the line, if it is a question and the first line a client.
 fn said_of(header: &[u8], rules: &[u8], line: &[u8]) -> Option<Said>
     ensures { unwrap_or result (said.refused_at 5 0) ≡ client.client_said header.now rules.now line.now }
 {
-    if !is_array(header) || !is_array(line) {
-        return None;
-    }
+    let first = Array::read(header)?;
+    let array = Array::read(line)?;
     let mut ids = [0; LINE];
     let mut names = [0; LINE];
-    let h = client_at(header, read_fields(header), &mut ids, &mut names)?;
+    let h = client_at(header, first.at, &mut ids, &mut names)?;
     let asker = Client::new(h.superuser, front(&ids, h.id), h.name, &names);
-    answer_question(&asker, rules, line)
+    answer_question(&asker, rules, &array)
 }
 
 // What is said of the line, behind this first line and these rules.

@@ -19,13 +19,10 @@ const PROTOCOL: u64 = 255;
 fn is_word(line: &[u8], at: Option<usize>, word: &[u8]) -> bool
     ensures { result ≡ spec.word_from line.now at word.now }
 {
-    match at {
-        Some(p) => string_is(line, p, word),
-        None => false,
-    }
+    at.is_some_and(|p| string_is(line, p, word))
 }
 
-// The form of a line, by its word, if it is one of the six.
+// The form of a line, by its word, if it is one of the six. Test by test, not by a `match` on bytes: a string may spell its word with escapes.
 #[tactic(auto, unfolding(crate::specs::Reading::form_here))]
 pub fn form(line: &[u8], at: Option<usize>) -> Option<Form>
     ensures { result ≡ spec.form_here line.now at }
@@ -56,10 +53,7 @@ pub fn form(line: &[u8], at: Option<usize>) -> Option<Form>
 fn is_null(line: &[u8], at: Option<usize>) -> bool
     ensures { result ≡ spec.null_from line.now at }
 {
-    match at {
-        Some(p) => matches!(literal_at(line, p), Some(Literal::Null)),
-        None => false,
-    }
+    at.and_then(|p| literal_at(line, p)) == Some(Literal::Null)
 }
 
 // The text that stands there, decoded to the front of the buffer.
@@ -118,8 +112,5 @@ pub fn protocol_at(line: &[u8], at: Option<usize>) -> Option<Option<u8>>
 pub fn given_in<'a>(length: Option<usize>, buffer: &'a [u8]) -> Option<&'a [u8]>
     ensures { option_copied result ≡ given length buffer.now }
 {
-    match length {
-        Some(n) => Some(front(buffer, n)),
-        None => None,
-    }
+    length.map(|n| front(buffer, n))
 }

@@ -3,6 +3,7 @@
 #![tactic(auto)]
 
 pub mod answer;
+mod array;
 mod asking;
 pub mod client;
 mod elements;
@@ -42,7 +43,7 @@ pub enum Form {
     Ended,
 }
 
-// Who asks: the earlier answer's code, and the lengths of his texts in their buffers.
+// Who asks: the earlier answer's code, and the lengths of his texts in their buffers. Lengths, not slices: a text is lent when all are read.
 #[derive(Clone, Copy, Debug, PartialEq, Eq)]
 pub struct Asker {
     pub earlier: u64,
@@ -75,7 +76,8 @@ pub struct Rules {
     pub fresh: bool,
 }
 
-// One byte later: the rules go on, or an empty line ends them, or they are longer than the buffer.
+// One byte later: the rules go on, or an empty line ends them, or they are longer than the buffer. Three outcomes, none of which is a failure:
+// `client` reads on behind rules that are too long.
 #[derive(Clone, Copy, Debug, PartialEq, Eq)]
 pub enum RulesTaken {
     Part(Rules),

@@ -6,16 +6,18 @@ use mathlib.Core.Bool.{Bool, true, false, ◌&&◌, ◌||◌, not, cond, and_ass
 use mathlib.Core.List.{List, [], ◌∷◌, map}
 use Rattle.std.specs.Prelude.{Option, None, Some, Result, Ok, Err}
 use Rattle.std.specs.Option.{option_map}
+use Rattle.std.specs.List.{list_any}
 use Rattle.text.specs.Maybe.{bind}
 use native.Mathlib.Nat.{add-sub_cancel}
 use native.Mathlib.Numerals.{add-one}
 use native.Mathlib.Omega.{arith}
 use lib.ListN.{length, drop}
 use Rattle.json_text.specs.Json.{Elements, no_element, element, depth_limit, line_value, longest, longest_element}
-use Rattle.json_text.specs.Access.{first_item, next_item}
+use Rattle.json_text.specs.Access.{first_item, next_item, places, places_from}
 use Rattle.json_text.specs.Lines.{line_at, line_behind, next_line}
 use Rattle.json_text.proofs.ValueLaws.{value_next}
 use Rattle.json_text.proofs.AccessLaws.{element_place, ElementsIn, array_is}
+use Rattle.json_text.proofs.PlaceLaws.{places_few}
 use Rattle.json_text.proofs.LineLaws.{lines_here, lines_past, next_within, next_after, next_from_end}
 use Rattle.table.specs.Table.{some_row}
 use Rattle.rule.specs.Limits.{text_limit}
@@ -280,6 +282,18 @@ module _ {filters eqs : List ℕ} {c : Client} {asked : Asked} {topic rules : Li
       filter_decides q = here_decides l (rw (rw add-sub_cancel at q, or-true, or-true))
 
 -- ---- the walk over a rule's topics
+
+some_place : (topic line : List ℕ) (most : ℕ) (place : Option ℕ) → some_topic_from topic most line place ≡ list_any (topic_agrees_at topic line) (places most line place)
+unfolding some_topic_from places
+some_place topic line zero place = refl
+some_place topic line (suc most) None = refl
+some_place topic line (suc most) (Some p) = ap (λ (b : Bool). topic_agrees_at topic line p || b) (some_place topic line most (next_item line p))
+
+-- one of an array's topics agrees exactly if one at one of its places does
+pub some_in : (topic line : List ℕ) (at : ℕ)
+    → list_any (topic_agrees_at topic line) (places_from line (first_item 0x5b 0x5d line at)) ≡ some_topic_from topic (length line) line (first_item 0x5b 0x5d line at)
+some_in topic line at =
+    ap (list_any (topic_agrees_at topic line)) (places_few line at) ∙ sym (some_place topic line (length line) (first_item 0x5b 0x5d line at))
 
 module _ (topic : List ℕ) (most : ℕ) (line : List ℕ) where
   -- no topic is left

@@ -60,11 +60,10 @@ fn deciding_on(
     requires { shape_of (view store.now) ≡ Some shape }
     ensures { (v : View) → view store.now ≡ Some v → result ≡ spec.deciding_on client.now (spec.wish_of asked topic.now) v }
 {
-    let counts = shape.counts;
     let text_end = Counts::HEADER + shape.text;
-    let filters_at = counts.filters_at();
+    let filters_at = shape.counts.filters_at();
     let filters_end = filters_at + shape.filters * Counts::FILTER;
-    let eqs_at = counts.eqs_at();
+    let eqs_at = shape.counts.eqs_at();
     let eqs_end = eqs_at + shape.eqs * Counts::EQ;
     deciding_in(
         &store[Counts::HEADER..text_end],

@@ -1,7 +1,9 @@
 // The decision on a rule text and used rows (document 01, Plugin decisions). Total: a line that is no rule agrees with nothing, and rows are
-// the whole rows of their part.
+// the whole rows of their part. `rule_agrees` and `deciding_rule` are public and take these parts and the question's one by one, so the functions
+// below them do.
 ghost use Rattle.std.specs.Prelude.{◌≡◌, true, length, IfSome};
 ghost use Rattle.topic.specs.Topic.{valid_filter};
+ghost use Rattle.json_text.specs.Access.{first_item};
 ghost use Rattle.json_text.specs.Lines.{lines};
 ghost use Rattle.rule.specs.RuleText.{read_rule};
 ghost use Rattle.rule.specs.Front.{item_behind};
@@ -10,7 +12,7 @@ ghost use Rattle.questions.specs.Decision as decision;
 ghost use Rattle.questions.specs.Parts as spec;
 
 use crate::{Asked, Deciding, Head, TopicPassed};
-use json_text::access::{first_element, kind_at, next_item, plain_text};
+use json_text::access::{Elements, first_element, kind_at, next_item, plain_text};
 use json_text::splitting::{line_at, line_behind};
 use json_text::strings::{decode, string_is};
 use json_text::values::separator;
@@ -88,7 +90,8 @@ fn front_head(line: &[u8], asked: Asked, client: &Client) -> Option<Option<Head>
     }))
 }
 
-// A line before its topics; with `checked`, the line is known to be a rule.
+// A line before its topics; with `checked`, the line is known to be a rule. A flag, not a closure that reads the line: a closure's contract
+// would have to say of every line of the text what the flag's one clause says.
 fn head_of(line: &[u8], checked: bool, asked: Asked, client: &Client) -> Option<Head>
     requires { checked ≡ true → spec.is_rule (read_rule line.now) ≡ true }
     ensures { result ≡ spec.head_at client.now asked line.now }
@@ -111,28 +114,43 @@ fn filter_matches(line: &[u8], at: usize, topic: &[u8]) -> bool
 }
 
 // Does the topic at this place of the rule's array agree by itself? A template doesn't.
+#[tactic(auto, unfolding(crate::proofs::HeadLaws::agrees_by), using(crate::proofs::HeadLaws::topic_by))]
 fn topic_agrees(line: &[u8], at: usize, topic: &[u8]) -> bool
     ensures { result ≡ spec.topic_agrees_at topic.now line.now at }
 {
-    let Some(found) = topic_at(line, at) else {
-        return false;
-    };
-    match found {
-        Topic::Filter(p) => filter_matches(line, p, topic),
-        Topic::Eq(p) => string_is(line, p, topic),
-        Topic::Template(_) => false,
-        Topic::EqTemplate(_) => false,
+    match topic_at(line, at) {
+        Some(Topic::Filter(p)) => filter_matches(line, p, topic),
+        Some(Topic::Eq(p)) => string_is(line, p, topic),
+        Some(Topic::Template(_) | Topic::EqTemplate(_)) | None => false,
+    }
+}
+
+// The topic that is asked on, and whether it is a valid filter, which each filter that may match it would test again.
+#[derive(Clone, Copy)]
+struct AskedTopic<'a> {
+    text: &'a [u8],
+    valid: bool,
+    ghost known: { valid ≡ valid_filter text.now },
+}
+
+impl<'a> AskedTopic<'a> {
+    fn new(text: &'a [u8]) -> Self
+        ensures { result.text ≡ text.entry }
+    {
+        AskedTopic {
+            text,
+            valid: valid_filter(text),
+        }
     }
 }
 
 // Does the text, a filter as it stands in the line, agree by itself? Most begin apart; what matches must be a rule's filter and no template.
 #[tactic(auto, using(crate::proofs::PassLaws::known_match, topic::proofs::Apart::apart_no_match), unfolding(crate::specs::Parts::text_agrees, store::specs::Store::over))]
-fn text_agrees(text: &[u8], topic: &[u8], valid: bool) -> bool
-    requires { valid ≡ valid_filter topic.now }
-    ensures { result ≡ spec.text_agrees topic.now text.now }
+fn text_agrees(text: &[u8], topic: &AskedTopic) -> bool
+    ensures { result ≡ spec.text_agrees topic.now.text.now text.now }
 {
-    !begins_apart(text, topic)
-        && tree_match_known(text, topic, valid)
+    !begins_apart(text, topic.text)
+        && tree_match_known(text, topic.text, topic.valid)
         && text.len() <= TEXT
         && !is_template(text)
         && valid_filter(text)
@@ -169,14 +187,13 @@ fn pass_value(line: &[u8], at: usize, topic: &[u8]) -> TopicPassed
 
 // The topic at this place of the rule's array, by its kind: it agrees by itself, or this is the next one. A plain string is tested where it
 // is, and so is one under `eq`; any other topic is read through its value.
-fn pass_topic(line: &[u8], at: usize, topic: &[u8], valid: bool) -> TopicPassed
-    requires { valid ≡ valid_filter topic.now }
-    ensures { result ≡ spec.passed_topic topic.now line.now at }
+fn pass_topic(line: &[u8], at: usize, topic: &AskedTopic) -> TopicPassed
+    ensures { result ≡ spec.passed_topic topic.now.text.now line.now at }
 {
     match kind_at(line, at) {
         Kind::Text => {
             if let Some(end) = plain_text(line, at) {
-                if text_agrees(&line[at + 1..end], topic, valid) {
+                if text_agrees(&line[at + 1..end], topic) {
                     return TopicPassed::Agrees;
                 }
                 return TopicPassed::Onward(element_behind(line, end + 1));
@@ -184,7 +201,7 @@ fn pass_topic(line: &[u8], at: usize, topic: &[u8], valid: bool) -> TopicPassed
         }
         Kind::Object => {
             if let Some(eq) = eq_text(line, at) {
-                if eq_agrees(&line[eq.opens + 1..eq.closes], topic) {
+                if eq_agrees(&line[eq.opens + 1..eq.closes], topic.text) {
                     return TopicPassed::Agrees;
                 }
                 return TopicPassed::Onward(element_behind(line, eq.next));
@@ -192,7 +209,7 @@ fn pass_topic(line: &[u8], at: usize, topic: &[u8], valid: bool) -> TopicPassed
         }
         _ => {}
     }
-    pass_value(line, at, topic)
+    pass_value(line, at, topic.text)
 }
 
 // Is there an eq row of the rule, counted from 0, that is the topic?
@@ -205,33 +222,21 @@ fn eq_row_agrees(eqs: &[u8], rule: usize, topic: &[u8]) -> bool
 }
 
 // Is there a filter row of the rule and the client that T-matches the topic?
-fn filter_row_agrees(filters: &[u8], rule: usize, id: &[u8], topic: &[u8], valid: bool) -> bool
-    requires { valid ≡ valid_filter topic.now }
-    ensures { result ≡ some_row (decision.filter_agrees rule id.now topic.now) (spec.filter_rows filters.now) }
+fn filter_row_agrees(filters: &[u8], rule: usize, id: &[u8], topic: &AskedTopic) -> bool
+    ensures { result ≡ some_row (decision.filter_agrees rule id.now topic.now.text.now) (spec.filter_rows filters.now) }
 {
     filters.chunks_exact(Counts::FILTER).any(|row| {
         number_at(row, 0) == rule
             && text::same(filter_owner(row), id)
-            && tree_match_known(filter_text(row), topic, valid)
+            && tree_match_known(filter_text(row), topic.text, topic.valid)
     })
 }
 
-// Does one of the topics from this place on agree by itself?
-fn some_topic_agrees(line: &[u8], first: Option<usize>, topic: &[u8]) -> bool
-    ensures { result ≡ spec.some_topic_from topic.now (length line.now) line.now first }
+// Does one of the topics of the array at this place agree by itself?
+fn some_topic_agrees(line: &[u8], array: usize, topic: &[u8]) -> bool
+    ensures { result ≡ spec.some_topic_from topic.now (length line.now) line.now (first_item 0x5b 0x5d line.now array) }
 {
-    let mut next = first;
-    // Each topic takes a byte of the line at least, so there are never more topics than bytes, and none is lost.
-    for _ in 0..line.len() {
-        let Some(p) = next else {
-            return false;
-        };
-        if topic_agrees(line, p, topic) {
-            return true;
-        }
-        next = next_item(line, p);
-    }
-    false
+    Elements::new(line, array).any(|p| topic_agrees(line, p, topic))
 }
 
 // Does the rule of a line agree, whose number, from 0, this is? A line that is no rule agrees with nothing.
@@ -252,9 +257,9 @@ pub fn rule_agrees(
     let Some(array) = head.topics else {
         return true;
     };
-    some_topic_agrees(line, first_element(line, array), topic)
+    some_topic_agrees(line, array, topic)
         || eq_row_agrees(eqs, rule, topic)
-        || filter_row_agrees(filters, rule, client.id(), topic, valid_filter(topic))
+        || filter_row_agrees(filters, rule, client.id(), &AskedTopic::new(topic))
 }
 
 // "The first rule whose control, users and topics all agree decides." With `checked`, each line is known to be a rule. Document 01 gives the
@@ -271,7 +276,7 @@ pub(crate) fn deciding_in(
     requires { checked ≡ true → spec.every_rule (lines rules.now) ≡ true }
     ensures { result ≡ spec.deciding client.now (spec.wish_of asked topic.now) rules.now filters.now eqs.now }
 {
-    let valid = valid_filter(topic);
+    let known = AskedTopic::new(topic);
     let mut allow = false;
     let mut superuser = false;
     let mut n = 0;
@@ -297,13 +302,13 @@ pub(crate) fn deciding_in(
             let Some(p) = next else {
                 break 'topics;
             };
-            match pass_topic(line, p, topic, valid) {
+            match pass_topic(line, p, &known) {
                 TopicPassed::Agrees => break 'rules n,
                 TopicPassed::Onward(place) => next = place,
             }
         }
         if eq_row_agrees(eqs, n - 1, topic)
-            || filter_row_agrees(filters, n - 1, client.id(), topic, valid)
+            || filter_row_agrees(filters, n - 1, client.id(), &known)
         {
             break 'rules n;
         }

@@ -4,9 +4,8 @@ use mathlib.Core.Path.{◌≡◌, refl, sym, ap, ◌∙◌}
 use mathlib.Core.Bool.{Bool, true, false, cond}
 use mathlib.Core.List.{List, [], ◌++◌}
 use Rattle.std.specs.Prelude.{Option, None, Some, Result, Ok, Err}
-use Rattle.std.specs.Option.{option_map, ok_or}
-use Rattle.std.specs.Result.{result_ok, IsErrAnd}
-use Rattle.std.proofs.lemmas.Result.{err_from_is_err_and}
+use Rattle.std.specs.Option.{option_map}
+use Rattle.std.specs.Result.{result_ok}
 use Rattle.json_text.specs.Lines.{lines}
 use native.Mathlib.Nat.{sub-zero}
 use native.Mathlib.Omega.{arith}
@@ -28,17 +27,6 @@ use Rattle.store.specs.View.{faultless, rules}
 use Rattle.store.specs.Check.{counts_read, text_fine, text_rules}
 use Rattle.store.specs.Opening.{open_fault, opened, after_open, told, says}
 use Rattle.store.proofs.RowLaws.{pasted_into, pasted-pad}
-
--- ---- what `?` passes on
-
-pub passed_on : {T E : Type 0} {e : E} (r : Result T E) → IsErrAnd r (λ x. x ≡ e) → r ≡ Err e
-passed_on r h = let p = err_from_is_err_and r h in p.1 ∙ ap Err p.2
-
--- behind `ok_or`: there was no value, and the answer is its refusal
-pub missing : {A B E : Type 0} (o : Option A) {e f : E} {r : Result A E} (s : Result B E) → r ≡ ok_or o f → r ≡ Err e → IsErrAnd s (λ x. x ≡ e)
-    → (o ≡ None) × (s ≡ Err f)
-missing None {e} {f} s h k p = let same : e ≡ f = cc in (refl, passed_on s p ∙ ap Err same)
-missing (Some x) {e} {f} {r} s h k p = let z : ◌≡◌ {A = ℕ} 0 1 = cc in absurd (omega arith)
 
 -- ---- counts
 

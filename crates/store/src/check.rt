@@ -94,12 +94,11 @@ impl RowKind for NumberedRows {
 fn table_fine<R: RowKind>(part: &[u8], used: usize, bound: usize) -> bool
     ensures { result ≡ spec.table_fine R.SIZE (R.fine bound) used part.now }
 {
-    if part.len() / R::SIZE < used {
-        return false;
-    }
-    part.chunks_exact(R::SIZE)
-        .take(used)
-        .all(|row| R::is_fine(row, bound))
+    used <= part.len() / R::SIZE
+        && part
+            .chunks_exact(R::SIZE)
+            .take(used)
+            .all(|row| R::is_fine(row, bound))
         && all_zero(&part[used * R::SIZE..])
         && distinct(part, R::SIZE, used)
 }

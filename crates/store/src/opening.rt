@@ -1,4 +1,5 @@
-// Opening a store (document 01, Refusals by operation, Open).
+// Opening a store (document 01, Refusals by operation, Open). The four counts come one by one, as the C interface hands them over: a `Counts` has
+// none that is out of its bounds.
 ghost use Rattle.std.specs.Prelude.{◌≡◌, ◌≤◌, length, replicate};
 ghost use Rattle.std.specs.Option.{option_map};
 ghost use Rattle.store.specs.Store as store_spec;

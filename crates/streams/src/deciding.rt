@@ -1,7 +1,7 @@
 // The program `decide`: rule lines, an empty line, event lines (document 01, Marked examples).
 use crate::Run;
 use crate::reading::{Program, read_all};
-use crate::writing::{put, say, start, written};
+use crate::writing::Answers;
 use lines::answer::answer;
 use lines::input::{take_byte, take_rule_byte};
 use lines::output::{malformed, refused_at};
@@ -25,43 +25,36 @@ const STORE: usize = 47888;
 // A line, and the rules, have at most 2,048 bytes.
 const BUFFER: usize = 2048;
 
-// The store, the rules or the line that has begun, and the output that waits.
+// The store, the rules or the line that has begun, and the answers.
 #[derive(Drop)]
 struct Deciding {
     store: [u8; STORE],
     buffer: [u8; BUFFER],
-    out: [u8; 4096],
+    answers: Answers,
 }
 
 impl Deciding {
     // The run over, with one line of output: the rules are refused.
-    fn refused<W: Write>(&mut self, run: Run, output: &mut W, fault: Fault) -> Run {
-        let said = refused_at(fault.cause, fault.line);
-        Run {
-            waiting: put(output, &mut self.out, run.waiting, 0, said),
-            more: false,
-            ..run
-        }
+    fn refused<W: Write>(&mut self, output: &mut W, fault: Fault) {
+        self.answers
+            .put(output, 0, refused_at(fault.cause, fault.line));
+        self.answers.run.more = false;
     }
 
     // The rules are whole: the store is opened for them.
-    fn open<W: Write>(&mut self, run: Run, output: &mut W, length: usize) -> Run {
+    fn open<W: Write>(&mut self, output: &mut W, length: usize) {
         match open(&mut self.store, R, F, E, N, front(&self.buffer, length)) {
-            Err(fault) => self.refused(run, output, fault),
-            Ok(()) => Run {
-                opened: true,
-                ..run
-            },
+            Err(fault) => self.refused(output, fault),
+            Ok(()) => self.answers.run.opened = true,
         }
     }
 
     // One byte of the rules.
-    fn take_in_rules<W: Write>(&mut self, run: Run, output: &mut W, b: u8) -> Run {
-        match take_rule_byte(run.rules, &mut self.buffer, b) {
-            RulesTaken::Part(rules) => Run { rules, ..run },
-            RulesTaken::Whole(n) => self.open(run, output, n),
+    fn take_in_rules<W: Write>(&mut self, output: &mut W, b: u8) {
+        match take_rule_byte(self.answers.run.rules, &mut self.buffer, b) {
+            RulesTaken::Part(rules) => self.answers.run.rules = rules,
+            RulesTaken::Whole(n) => self.open(output, n),
             RulesTaken::TooLong => self.refused(
-                run,
                 output,
                 Fault {
                     cause: Refusal::TooLong,
@@ -72,50 +65,59 @@ impl Deciding {
     }
 
     // One byte of the lines behind them.
-    fn take_in_lines<W: Write>(&mut self, run: Run, output: &mut W, b: u8) -> Run {
-        match take_byte(run.begun, &mut self.buffer, b) {
-            Taken::Part(begun) => Run { begun, ..run },
-            Taken::Line(n) => self.answer(run, output, n),
-            Taken::LongLine => say(run, output, &mut self.out, malformed()),
+    fn take_in_lines<W: Write>(&mut self, output: &mut W, b: u8) {
+        match take_byte(self.answers.run.begun, &mut self.buffer, b) {
+            Taken::Part(begun) => self.answers.run.begun = begun,
+            Taken::Line(n) => self.answer(output, n),
+            Taken::LongLine => self.answers.say(output, malformed()),
         }
     }
 
     // A line of this length is whole.
-    fn answer<W: Write>(&mut self, run: Run, output: &mut W, length: usize) -> Run {
+    fn answer<W: Write>(&mut self, output: &mut W, length: usize) {
         let said = answer(&mut self.store, front(&self.buffer, length));
-        say(run, output, &mut self.out, said)
+        self.answers.say(output, said);
     }
 }
 
 impl<W: Write> Program<W> for Deciding {
-    fn take(&mut self, run: Run, output: &mut W, b: u8) -> Run {
-        if !run.more {
-            return run;
+    fn take(&mut self, output: &mut W, b: u8) {
+        if !self.answers.run.more {
+            return;
         }
-        if run.opened {
-            return self.take_in_lines(run, output, b);
+        if self.answers.run.opened {
+            self.take_in_lines(output, b);
+        } else {
+            self.take_in_rules(output, b);
         }
-        self.take_in_rules(run, output, b)
     }
 
-    fn finish(&mut self, run: Run, output: &mut W) -> Run {
-        if !run.more {
-            return run;
+    fn finish(&mut self, output: &mut W) {
+        let Run {
+            more,
+            opened,
+            rules,
+            begun,
+            ..
+        } = self.answers.run;
+        if !more {
+            return;
         }
-        if !run.opened {
-            return self.open(run, output, run.rules.length);
+        if !opened {
+            self.open(output, rules.length);
+        } else if begun.long {
+            self.answers.say(output, malformed());
+        } else if begun.length != 0 {
+            self.answer(output, begun.length);
         }
-        if run.begun.long {
-            return say(run, output, &mut self.out, malformed());
-        }
-        if run.begun.length == 0 {
-            return run;
-        }
-        self.answer(run, output, run.begun.length)
     }
 
-    fn write(&self, run: Run, output: &mut W) -> Run {
-        written(run, output, &self.out)
+    fn write(&mut self, output: &mut W) {
+        self.answers.write(output);
+    }
+
+    fn goes_on(&self) -> bool {
+        self.answers.run.more
     }
 }
 
@@ -124,14 +126,7 @@ pub fn decide<E: Eprint, R: Read, W: Write>(rt: &E, input: &mut R, output: &mut 
     let mut deciding = Deciding {
         store: [0; STORE],
         buffer: [0; BUFFER],
-        out: [0; 4096],
+        answers: Answers::new(true),
     };
-    read_all(
-        rt,
-        "decide: cannot read",
-        &mut deciding,
-        start(true),
-        input,
-        output,
-    );
+    read_all(rt, "decide: cannot read", &mut deciding, input, output);
 }

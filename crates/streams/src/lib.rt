@@ -9,7 +9,7 @@ mod writing;
 use lines::{Begun, Rules};
 
 // What is known between two bytes of the input: the first line, where the program has one, the rules and the line that has begun, the number of
-// the last line that was answered, and how many bytes of output wait in their buffer.
+// the last line that was answered, and how many bytes of output wait in their buffer. A program holds it beside its buffers.
 #[derive(Clone, Copy, Debug, PartialEq, Eq)]
 pub struct Run {
     // Is the first line whole, and how long is it?

@@ -8,26 +8,6 @@ use lines::{Begun, Rules, Said};
 use std::io::Write;
 use text::front;
 
-// Writes out what waits. What cannot be written is lost; the run goes on.
-fn flush<W: Write>(output: &mut W, out: &[u8], waiting: usize) {
-    let _ = output.write_all(front(out, waiting));
-}
-
-// The line of output for the line of input with this number, behind those that wait; hands back how many bytes wait then.
-pub(crate) fn put<W: Write>(
-    output: &mut W,
-    out: &mut [u8],
-    waiting: usize,
-    number: u64,
-    said: Said,
-) -> usize {
-    if let Some(end) = put_line(number, said, out, waiting) {
-        return end;
-    }
-    flush(output, out, waiting);
-    put_line(number, said, out, 0).unwrap_or(0)
-}
-
 // No line has begun.
 pub fn no_line() -> Begun
     ensures { result ≡ spec.no_line }
@@ -57,19 +37,43 @@ pub fn start(headed: bool) -> Run
     }
 }
 
-// What is said of the next line.
-pub(crate) fn say<W: Write>(run: Run, output: &mut W, out: &mut [u8], said: Said) -> Run {
-    let number = std::num::wrapping_add_u64(run.number, 1);
-    Run {
-        number,
-        waiting: put(output, out, run.waiting, number, said),
-        begun: no_line(),
-        ..run
-    }
+// The output that waits, and what is known between two bytes.
+#[derive(Drop)]
+pub(crate) struct Answers {
+    pub(crate) run: Run,
+    out: [u8; 4096],
 }
 
-// Writes out what waits.
-pub(crate) fn written<W: Write>(run: Run, output: &mut W, out: &[u8]) -> Run {
-    flush(output, out, run.waiting);
-    Run { waiting: 0, ..run }
+impl Answers {
+    // Before the first byte; with or without a first line to come.
+    pub(crate) fn new(headed: bool) -> Self {
+        Answers {
+            run: start(headed),
+            out: [0; 4096],
+        }
+    }
+
+    // Writes out what waits. What cannot be written is lost; the run goes on.
+    pub(crate) fn write<W: Write>(&mut self, output: &mut W) {
+        let _ = output.write_all(front(&self.out, self.run.waiting));
+        self.run.waiting = 0;
+    }
+
+    // The line of output for the line of input with this number, behind those that wait.
+    pub(crate) fn put<W: Write>(&mut self, output: &mut W, number: u64, said: Said) {
+        if let Some(end) = put_line(number, said, &mut self.out, self.run.waiting) {
+            self.run.waiting = end;
+            return;
+        }
+        self.write(output);
+        self.run.waiting = put_line(number, said, &mut self.out, 0).unwrap_or(0);
+    }
+
+    // What is said of the next line.
+    pub(crate) fn say<W: Write>(&mut self, output: &mut W, said: Said) {
+        let number = std::num::wrapping_add_u64(self.run.number, 1);
+        self.run.number = number;
+        self.run.begun = no_line();
+        self.put(output, number, said);
+    }
 }

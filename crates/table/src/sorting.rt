@@ -111,10 +111,12 @@ impl Rows<'_> {
     fn merge_runs(&self, from: &[u16], to: &mut [u16], width: usize)
         requires { (0 < width) × (width ≤ 8192) }
     {
+        // A copy, whose parts stand in registers.
+        let rows = *self;
         for (from, to) in from.chunks(2 * width).zip(to.chunks_mut(2 * width)) {
             if from.len() == to.len() {
                 let (left, right) = from.split_at(width.min(from.len()));
-                self.merge(left, right, to);
+                rows.merge(left, right, to);
             }
         }
     }

@@ -1,2 +1,3 @@
 mod Examples
 pub mod Laws
+pub mod TryLaws

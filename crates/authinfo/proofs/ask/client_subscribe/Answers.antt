@@ -4,7 +4,7 @@ use Rattle.std.specs.Prelude.{Ok}
 use Rattle.authinfo.specs.Decision.{subscribe, allowance, refusal}
 use Rattle.authinfo.specs.Answers.{subscribe_says}
 use Rattle.authinfo.specs.Places.{question_of}
-use Rattle.authinfo.proofs.ReadingLaws.{passed_on}
+use Rattle.text.proofs.TryLaws.{passed_on}
 use Rattle.authinfo.proofs.AskLaws.{Decided, refused_by, undecided_by, allowed_by, denied_by}
 use Rattle.authinfo.proofs.ask.client_subscribe.Goals as goal
 

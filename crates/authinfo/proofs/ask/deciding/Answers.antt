@@ -4,7 +4,7 @@ use mathlib.Core.Path.{refl, sym, ap, ◌∙◌}
 use borrow.Author.Tests.{lt-ltb, le-ltb}
 use Rattle.authinfo.specs.Decision.{Client, qos_limit}
 use Rattle.authinfo.specs.Places.{qos_of_asked, for_client, unless_fault}
-use Rattle.authinfo.proofs.ReadingLaws.{passed_on}
+use Rattle.text.proofs.TryLaws.{passed_on}
 use Rattle.authinfo.proofs.AskLaws.{many_lines, few_lines, name_fits, fault_by, deciding_by, superuser_allowed, others_decided}
 use Rattle.authinfo.proofs.ask.deciding.Goals as goal
 
@@ -23,9 +23,9 @@ unfolding fault_by unless_fault
 returns-then-qos-gt-QOS c =
     sym (deciding_by c.args.client.now c.args.rules.now c.args.asked c.args.topic.now (sym c.too_long.ensures ∙ c.if-too_long.false) (few_lines c.args.rules.now (omega (arith, c.if-count_lines-gt-LINES.false, c.count_lines.ensures))) (lt-ltb qos_limit (qos_of_asked c.args.asked) (omega (arith, c.if-qos-gt-QOS.true, c.qos.ensures))) refl)
 
-pub first_hit-requires : goal.first_hit-requires
-first_hit-requires c =
-    name_fits c.args.client.now.id c.args.client.now.name c.args.topic.now c.args.rules.now (sym c.too_long.ensures ∙ c.if-too_long.false)
+pub invariant_of-asks : goal.invariant_of-asks
+invariant_of-asks c =
+    record { name_fits = name_fits c.args.client.now.id c.args.client.now.name c.args.topic.now c.args.rules.now (sym c.too_long.ensures ∙ c.if-too_long.false) }
 
 pub returns-in_err-found : goal.returns-in_err-found
 unfolding for_client fault_by unless_fault

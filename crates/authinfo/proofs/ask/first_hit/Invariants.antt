@@ -8,4 +8,4 @@ abbrev pub invariant-loop-line : goal.invariant-loop-line
 invariant-loop-line l =
     (goal.iterator-loop-line).can_next l.line-iterator
     × (goal.iterator-loop-line).is_finite l.line-iterator
-    × After (question_of l.asked l.topic) l.client.id l.client.name l.rules l.found l.n (lines l.line-iterator.rest.now)
+    × After (question_of l.asks.asked l.asks.topic.now) l.asks.client.now.id l.asks.client.now.name l.rules l.found l.n (lines l.line-iterator.rest.now)

@@ -17,12 +17,12 @@ slice_bounds-filled-start c =
 
 pub returns-then-begins : goal.returns-then-begins
 returns-then-begins c =
-    rw part_to_end at c.filled.ensures ∙ sym (topic_eq c.args.topic.now c.args.client.now.id c.args.client.now.name c.args.text.now (sym c.begins.ensures ∙ c.if-begins.true))
+    rw part_to_end at c.filled.ensures ∙ sym (topic_eq c.args.asks.now.topic.now c.args.asks.now.client.now.id c.args.asks.now.client.now.name c.args.text.now (sym c.begins.ensures ∙ c.if-begins.true))
 
 pub returns-then-text-eq0 : goal.returns-then-text-eq0
 returns-then-text-eq0 c =
-    sym (topic_empty c.args.topic.now c.args.client.now.id c.args.client.now.name c.args.text.now (sym c.begins.ensures ∙ c.if-begins.false) c.if-text-eq0.true)
+    sym (topic_empty c.args.asks.now.topic.now c.args.asks.now.client.now.id c.args.asks.now.client.now.name c.args.text.now (sym c.begins.ensures ∙ c.if-begins.false) c.if-text-eq0.true)
 
 pub returns : goal.returns
 returns c =
-    c.filled-2.ensures ∙ sym (topic_filter c.args.topic.now c.args.client.now.id c.args.client.now.name c.args.text.now (sym c.begins.ensures ∙ c.if-begins.false) c.if-text-eq0.false)
+    c.filled-2.ensures ∙ sym (topic_filter c.args.asks.now.topic.now c.args.asks.now.client.now.id c.args.asks.now.client.now.name c.args.text.now (sym c.begins.ensures ∙ c.if-begins.false) c.if-text-eq0.false)

@@ -14,12 +14,12 @@ pub returns-then-not-contains : goal.returns-then-not-contains
 returns-then-not-contains c =
     rw (← c.client.view_is)
     (c.with_id.ensures
-    ∙ filled_plain c.args.topic.now c.client.inside.id.now (given c.client.inside.name c.client.inside.names.now) c.args.eq c.args.configured.now c.contains-held.ensures (sym c.contains.ensures ∙ c.if-not-contains.true))
+    ∙ filled_plain c.args.asks.now.topic.now c.client.inside.id.now (given c.client.inside.name c.client.inside.names.now) c.args.eq c.args.configured.now c.contains-held.ensures (sym c.contains.ensures ∙ c.if-not-contains.true))
 
 pub returns-in_default : goal.returns-in_default
 returns-in_default c =
     rw (← c.client.view_is)
-    (sym (filled_nobody c.args.topic.now c.client.inside.id.now (given c.client.inside.name c.client.inside.names.now) c.args.eq c.args.configured.now (sym c.contains.ensures ∙ c.if-not-contains.false) (absent c.client.inside.names.now c.in_default.is)))
+    (sym (filled_nobody c.args.asks.now.topic.now c.client.inside.id.now (given c.client.inside.name c.client.inside.names.now) c.args.eq c.args.configured.now (sym c.contains.ensures ∙ c.if-not-contains.false) (absent c.client.inside.names.now c.in_default.is)))
 
 pub slice_bounds-between-end : goal.slice_bounds-between-end
 slice_bounds-between-end c =
@@ -32,8 +32,8 @@ slice_bounds-with_id-end c =
 pub returns-in-None : goal.returns-in-None
 returns-in-None c =
     let far = too_long_told (replace username c.front-name.result.now c.args.configured.now) 1489 c.replace.ensures.value c.in-None.is in
-    let fits = name_fits c.client.inside.names.now (rw (← c.client.view_is) at c.requires.names_value) c.in-Some.is in
-    let near = between_fits c.front-name.result.now c.args.configured.now (omega (arith, ap length c.front-name.ensures)) c.requires.short in
+    let fits = name_fits c.client.inside.names.now (rw (← c.client.view_is) at c.args.asks.now.name_fits) c.in-Some.is in
+    let near = between_fits c.front-name.result.now c.args.configured.now (omega (arith, ap length c.front-name.ensures)) c.requires in
     absurd (omega arith)
 
 pub returns-in-Some-replace : goal.returns-in-Some-replace
@@ -41,4 +41,4 @@ returns-in-Some-replace c =
     let front = put_front (replace username c.front-name.result.now c.args.configured.now) (replicate 1489 0) c.replace.ensures.value c.replace.ensures.buffer_after c.in-Some-replace.is in
     rw (← c.client.view_is)
     (c.with_id-in-Some-replace.ensures
-    ∙ filled_named c.args.topic.now c.client.inside.id.now (given c.client.inside.name c.client.inside.names.now) c.args.eq c.args.configured.now c.contains-held.ensures (sym c.contains.ensures ∙ c.if-not-contains.false) (named_part c.client.inside.names.now c.in-Some.is c.front-name.ensures) front)
+    ∙ filled_named c.args.asks.now.topic.now c.client.inside.id.now (given c.client.inside.name c.client.inside.names.now) c.args.eq c.args.configured.now c.contains-held.ensures (sym c.contains.ensures ∙ c.if-not-contains.false) (named_part c.client.inside.names.now c.in-Some.is c.front-name.ensures) front)

@@ -11,52 +11,52 @@ use Rattle.authinfo.specs.Places.{topic_takes}
 use Rattle.authinfo.proofs.FillingLaws.{short_there, text_there, no_topic}
 use Rattle.authinfo.proofs.filling.topic_at.Goals as goal
 
-pub overflow_add-at : goal.overflow_add-at
-overflow_add-at c =
-    let found = plain_string c.args.line.now c.args.at (sym c.requires.quote_value ∙ c.in-Some.is) in omega arith
+pub overflow_add-word : goal.overflow_add-word
+overflow_add-word c =
+    let found = plain_string c.args.word.now.line.now c.args.word.now.at (sym c.args.word.now.closes ∙ c.in-Some.is) in omega arith
 
 pub slice_bounds-configured-count : goal.slice_bounds-configured-count
 slice_bounds-configured-count c =
-    let found = plain_string c.args.line.now c.args.at (sym c.requires.quote_value ∙ c.in-Some.is) in omega arith
+    let found = plain_string c.args.word.now.line.now c.args.word.now.at (sym c.args.word.now.closes ∙ c.in-Some.is) in omega arith
 
 pub slice_bounds-configured-start : goal.slice_bounds-configured-start
 slice_bounds-configured-start c =
-    let found = plain_string c.args.line.now c.args.at (sym c.requires.quote_value ∙ c.in-Some.is) in omega arith
+    let found = plain_string c.args.word.now.line.now c.args.word.now.at (sym c.args.word.now.closes ∙ c.in-Some.is) in omega arith
 
 pub slice_bounds-configured-end : goal.slice_bounds-configured-end
 slice_bounds-configured-end c =
-    let found = plain_string c.args.line.now c.args.at (sym c.requires.quote_value ∙ c.in-Some.is) in omega arith
+    let found = plain_string c.args.word.now.line.now c.args.word.now.at (sym c.args.word.now.closes ∙ c.in-Some.is) in omega arith
 
 pub configured-requires : goal.configured-requires
 configured-requires c =
-    let found = plain_string c.args.line.now c.args.at (sym c.requires.quote_value ∙ c.in-Some.is) in
-    record { names_value = c.requires.names_value; short = short_there (string_at c.args.line.now c.args.at) found.string c.requires.short_at }
+    let found = plain_string c.args.word.now.line.now c.args.word.now.at (sym c.args.word.now.closes ∙ c.in-Some.is) in
+    (short_there (string_at c.args.word.now.line.now c.args.word.now.at) found.string c.requires)
 
 pub returns-in-Some : goal.returns-in-Some
 returns-in-Some c =
-    let found = plain_string c.args.line.now c.args.at (sym c.requires.quote_value ∙ c.in-Some.is) in
+    let found = plain_string c.args.word.now.line.now c.args.word.now.at (sym c.args.word.now.closes ∙ c.in-Some.is) in
     c.configured.ensures
-    ∙ sym (ap (topic_takes c.args.topic.now c.args.client.now.id c.args.client.now.name) (text_there (string_at c.args.line.now c.args.at) found.string))
+    ∙ sym (ap (topic_takes c.args.asks.now.topic.now c.args.asks.now.client.now.id c.args.asks.now.client.now.name) (text_there (string_at c.args.word.now.line.now c.args.word.now.at) found.string))
 
 pub slice_bounds-decoded-end : goal.slice_bounds-decoded-end
 slice_bounds-decoded-end c =
-    (decoded_length (replicate 256 0) (string_at c.args.line.now c.args.at) c.decode.ensures.value c.decode.ensures.buffer_after c.in-Ok.is).room
+    (decoded_length (replicate 256 0) (string_at c.args.word.now.line.now c.args.word.now.at) c.decode.ensures.value c.decode.ensures.buffer_after c.in-Ok.is).room
 
 pub slice_bounds-configured-end-in-Ok : goal.slice_bounds-configured-end-in-Ok
 slice_bounds-configured-end-in-Ok c =
-    sym (length-take-le c.in-Ok.n _ (decoded_length (replicate 256 0) (string_at c.args.line.now c.args.at) c.decode.ensures.value c.decode.ensures.buffer_after c.in-Ok.is).room)
+    sym (length-take-le c.in-Ok.n _ (decoded_length (replicate 256 0) (string_at c.args.word.now.line.now c.args.word.now.at) c.decode.ensures.value c.decode.ensures.buffer_after c.in-Ok.is).room)
 
 pub configured-requires-in-Ok : goal.configured-requires-in-Ok
 configured-requires-in-Ok c =
-    let k = decoded_length (replicate 256 0) (string_at c.args.line.now c.args.at) c.decode.ensures.value c.decode.ensures.buffer_after c.in-Ok.is in
-    record { names_value = c.requires.names_value; short = rw k.front (short_there (string_at c.args.line.now c.args.at) k.is c.requires.short_at) }
+    let k = decoded_length (replicate 256 0) (string_at c.args.word.now.line.now c.args.word.now.at) c.decode.ensures.value c.decode.ensures.buffer_after c.in-Ok.is in
+    rw k.front (short_there (string_at c.args.word.now.line.now c.args.word.now.at) k.is c.requires)
 
 pub returns-in-Ok : goal.returns-in-Ok
 returns-in-Ok c =
-    let k = decoded_length (replicate 256 0) (string_at c.args.line.now c.args.at) c.decode.ensures.value c.decode.ensures.buffer_after c.in-Ok.is in
+    let k = decoded_length (replicate 256 0) (string_at c.args.word.now.line.now c.args.word.now.at) c.decode.ensures.value c.decode.ensures.buffer_after c.in-Ok.is in
     c.configured-in-Ok.ensures
-    ∙ ap (topic_takes c.args.topic.now c.args.client.now.id c.args.client.now.name) (ap Some k.front ∙ sym (text_there (string_at c.args.line.now c.args.at) k.is))
+    ∙ ap (topic_takes c.args.asks.now.topic.now c.args.asks.now.client.now.id c.args.asks.now.client.now.name) (ap Some k.front ∙ sym (text_there (string_at c.args.word.now.line.now c.args.word.now.at) k.is))
 
 pub returns-in-Err : goal.returns-in-Err
 returns-in-Err c =
-    sym (no_topic c.args.topic.now c.args.client.now.id c.args.client.now.name (string_at c.args.line.now c.args.at) c.decode.ensures.value c.in-Err.is c.requires.short_at)
+    sym (no_topic c.args.asks.now.topic.now c.args.asks.now.client.now.id c.args.asks.now.client.now.name (string_at c.args.word.now.line.now c.args.word.now.at) c.decode.ensures.value c.in-Err.is c.requires)

@@ -52,19 +52,19 @@ pub returns-in-Close : goal.returns-in-Close
 returns-in-Close c =
     let named = plain_string c.args.line.now c.loop-i.i (sym c.plain_text.ensures ∙ c.in_ok-end.was) in
     let here = member_read c.args.line.now c.loop-i.i named (sym c.value_behind.ensures ∙ c.in_ok-p.was)
-    (MatchOption-at_some _ (PartTo 7 c.args.line.now c.in_ok-p.p (c.in_ok-end.end - (c.loop-i.i + 1))) _ c.in_ok-behind.was c.value_end.ensures) in
-    line_passed c.args.line.now c.loop-i.invariant here c.with_member-found.ensures c.skip_blanks-first.ensures (sym c.separator.ensures ∙ (c.in_ok-next.was ∙ ap Some c.in-Close.is)) c.skip_blanks.ensures c.if-skip_blanks-line.false
+    (MatchOption-at_some _ (PartTo 7 c.args.line.now c.in_ok-p.p (c.in_ok-end.end - (c.loop-i.i + 1))) _ c.in_ok-behind.was (rw (c.new-value.ensures.0, c.new-value.ensures.1) at c.end.ensures)) in
+    line_passed c.args.line.now c.loop-i.invariant here (rw (c.new-value.ensures.0, c.new-value.ensures.1) at c.with_member-found.ensures) c.skip_blanks-first.ensures (sym c.separator.ensures ∙ (c.in_ok-next.was ∙ ap Some c.in-Close.is)) c.skip_blanks.ensures c.if-skip_blanks-line.false
 
 pub loop-i-smaller : goal.loop-i-smaller
 loop-i-smaller c =
     let named = plain_string c.args.line.now c.loop-i.i (sym c.plain_text.ensures ∙ c.in_ok-end.was) in
     let here = member_read c.args.line.now c.loop-i.i named (sym c.value_behind.ensures ∙ c.in_ok-p.was)
-    (MatchOption-at_some _ (PartTo 7 c.args.line.now c.in_ok-p.p (c.in_ok-end.end - (c.loop-i.i + 1))) _ c.in_ok-behind.was c.value_end.ensures) in
+    (MatchOption-at_some _ (PartTo 7 c.args.line.now c.in_ok-p.p (c.in_ok-end.end - (c.loop-i.i + 1))) _ c.in_ok-behind.was (rw (c.new-value.ensures.0, c.new-value.ensures.1) at c.end.ensures)) in
     omega (arith, member_forward c.args.line.now here (sym c.separator.ensures ∙ (c.in_ok-next.was ∙ ap Some c.in-Comma.is)))
 
 pub loop-i-preserved : goal.loop-i-preserved
 loop-i-preserved c =
     let named = plain_string c.args.line.now c.loop-i.i (sym c.plain_text.ensures ∙ c.in_ok-end.was) in
     let here = member_read c.args.line.now c.loop-i.i named (sym c.value_behind.ensures ∙ c.in_ok-p.was)
-    (MatchOption-at_some _ (PartTo 7 c.args.line.now c.in_ok-p.p (c.in_ok-end.end - (c.loop-i.i + 1))) _ c.in_ok-behind.was c.value_end.ensures) in
-    passed_more c.args.line.now c.loop-i.invariant here c.with_member-found.ensures (sym c.separator.ensures ∙ (c.in_ok-next.was ∙ ap Some c.in-Comma.is))
+    (MatchOption-at_some _ (PartTo 7 c.args.line.now c.in_ok-p.p (c.in_ok-end.end - (c.loop-i.i + 1))) _ c.in_ok-behind.was (rw (c.new-value.ensures.0, c.new-value.ensures.1) at c.end.ensures)) in
+    passed_more c.args.line.now c.loop-i.invariant here (rw (c.new-value.ensures.0, c.new-value.ensures.1) at c.with_member-found.ensures) (sym c.separator.ensures ∙ (c.in_ok-next.was ∙ ap Some c.in-Comma.is))

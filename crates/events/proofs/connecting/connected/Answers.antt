@@ -6,7 +6,7 @@ use Rattle.std.specs.Prelude.{None}
 use Rattle.std.specs.Result.{result_ok}
 use Rattle.rule.specs.Refusals.{number, first}
 use Rattle.store.specs.View.{view}
-use Rattle.store.proofs.OpenLaws.{missing}
+use Rattle.text.proofs.TryLaws.{missing}
 use Rattle.store.proofs.PartLaws.{seen_as}
 use Rattle.events.specs.Event as spec
 use Rattle.events.specs.Event.{says, argument_causes}

@@ -43,7 +43,7 @@ unfolding replaced table_at table_end table_used
 push_all-requires c =
     let ready = ready_by c.args.store.now c.args.shape c.requires.store_value c.requires.names_value c.requires.names_value_2 refl refl refl refl in
     let g = ready in
-    let whole = asks_filters g (start g) (sized g) in record { id_len_bound = whole.0; in_order = (whole.1.0.1, whole.1.0.2, whole.1.0.3); few_lines = whole.1.1.0; none_over = whole.1.1.1 }
+    let whole = asks_filters g (start g) (sized g) in record { in_order = (whole.1.0.1, whole.1.0.2, whole.1.0.3); few_lines = whole.1.1.0; none_over = whole.1.1.1 }
 
 pub returns-in_default : goal.returns-in_default
 unfolding says number replaced table_at table_end table_used
@@ -58,7 +58,7 @@ push_all-requires-2 c =
     let filters_in = filters_added ready (c.push_all.ensures.value, c.push_all.ensures.store_after) c.in-Some.is in
     let g = ready in
     let f = filters_in in
-    let whole = asks_eqs g f.left (sized₁ g f) in record { id_len_bound = whole.0; in_order = (whole.1.0.1, whole.1.0.2, whole.1.0.3); few_lines = whole.1.1.0; none_over = whole.1.1.1 }
+    let whole = asks_eqs g f.left (sized₁ g f) in record { in_order = (whole.1.0.1, whole.1.0.2, whole.1.0.3); few_lines = whole.1.1.0; none_over = whole.1.1.1 }
 
 pub returns-in_default-push_all : goal.returns-in_default-push_all
 unfolding says number replaced table_at table_end table_used
@@ -74,7 +74,7 @@ push_all-requires-3 c =
     let filters_in = filters_added ready (c.push_all.ensures.value, c.push_all.ensures.store_after) c.in-Some.is in
     let eqs_in = eqs_added ready filters_in (c.push_all-2.ensures.value, c.push_all-2.ensures.store_after) c.in-Some-push_all.is in
     let g = ready in let f = filters_in in let e = eqs_in in
-    let whole = asks_notes g e.left (sized₂ g f e) in record { id_len_bound = whole.0; in_order = (whole.1.0.1, whole.1.0.2, whole.1.0.3); few_lines = whole.1.1.0; none_over = whole.1.1.1 }
+    let whole = asks_notes g e.left (sized₂ g f e) in record { in_order = (whole.1.0.1, whole.1.0.2, whole.1.0.3); few_lines = whole.1.1.0; none_over = whole.1.1.1 }
 
 pub returns-in_default-push_all-2 : goal.returns-in_default-push_all-2
 unfolding says number replaced table_at table_end table_used

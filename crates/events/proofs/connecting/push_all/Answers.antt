@@ -13,7 +13,7 @@ push_rows-requires c =
     let h = c.requires.in_order in
     let text : take (16 + c.args.shape.text - 16) (drop 16 c.split_at_mut-front.result.0.now) ≡ rules (16 + c.args.shape.text) c.args.store.now =
     rw (c.split_at_mut-front.ensures.front, c.stretch-from.ensures.from) (rules_front (16 + c.args.shape.text) (table_at c.args.table c.args.shape.counts) c.args.store.now (omega arith) h.0 (omega (arith, h))) in
-    record { id_len_bound = c.requires.id_len_bound; few_lines = rw text c.requires.few_lines; none_over = rw text c.requires.none_over }
+    record { few_lines = rw text c.requires.few_lines; none_over = rw text c.requires.none_over }
 
 pub returns : goal.returns
 unfolding replaced

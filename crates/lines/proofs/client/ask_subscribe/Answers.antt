@@ -1,24 +1,41 @@
 -- Each return has what was read of the elements. Assumes nothing.
 use Rattle.std.specs.Prelude.{None, Some}
 use mathlib.Core.Path.{refl, sym, ap, ◌∙◌}
-use Rattle.lines.proofs.ElementLaws.{zeros, roomy, is_more, number_read, text_read, text_unread, second, third, fourth}
-use Rattle.lines.proofs.ClientLaws.{unasked, asked, subscribe_more, subscribe_bad, subscribe_no_topic, subscribe-is}
+use Rattle.lines.proofs.ElementLaws.{zeros, is_more, number_read, text_read, text_unread, second, third, fourth}
+use Rattle.lines.specs.Reading.{elements}
+use Rattle.lines.proofs.ClientLaws.{array_stands, array_roomy, unasked, asked, subscribe_more, subscribe_bad, subscribe_no_topic, subscribe-is}
 use Rattle.lines.proofs.client.ask_subscribe.Goals as goal
 
 pub returns-then-is_some : goal.returns-then-is_some
-returns-then-is_some c es is at =
-    unasked _ _ {r = None} refl (subscribe_more es (is_more (fourth c.args.line.now es is c.args.f at) c.is_some.ensures c.if-is_some.true))
+returns-then-is_some c =
+    let line = c.args.array.now.line.now in
+    let es = elements line in
+    let is = array_stands line c.args.array.now.is_array in
+    let at = c.args.array.now.placed in
+    unasked _ _ {r = None} refl (subscribe_more es (is_more (fourth line es is c.args.array.now.at at) c.is_some.ensures c.if-is_some.true))
 
 pub returns-in_err-qos : goal.returns-in_err-qos
-returns-in_err-qos c es is at =
-    unasked _ _ c.from_residual.ensures (subscribe_bad es (number_read c.args.line.now es is 1 (second c.args.line.now es is c.args.f at) c.number_at.ensures c.in_err-qos.was))
+returns-in_err-qos c =
+    let line = c.args.array.now.line.now in
+    let es = elements line in
+    let is = array_stands line c.args.array.now.is_array in
+    let at = c.args.array.now.placed in
+    unasked _ _ c.from_residual.ensures (subscribe_bad es (number_read line es is 1 (second line es is c.args.array.now.at at) c.number_at.ensures c.in_err-qos.was))
 
 pub returns-in_err-topic : goal.returns-in_err-topic
-returns-in_err-topic c es is at =
-    unasked _ _ c.from_residual-in_err-topic.ensures (subscribe_no_topic es (text_unread c.args.line.now es is 2 (third c.args.line.now es is c.args.f at) zeros (roomy c.args.line.now c.requires) c.text_at.ensures.value (sym c.ok.ensures.value ∙ c.in_err-topic.was)))
+returns-in_err-topic c =
+    let line = c.args.array.now.line.now in
+    let es = elements line in
+    let is = array_stands line c.args.array.now.is_array in
+    let at = c.args.array.now.placed in
+    unasked _ _ c.from_residual-in_err-topic.ensures (subscribe_no_topic es (text_unread line es is 2 (third line es is c.args.array.now.at at) zeros (array_roomy line c.args.array.now.is_array) c.text_at.ensures.value (sym c.ok.ensures.value ∙ c.in_err-topic.was)))
 
 pub returns : goal.returns
-returns c es is at =
+returns c =
+    let line = c.args.array.now.line.now in
+    let es = elements line in
+    let is = array_stands line c.args.array.now.is_array in
+    let at = c.args.array.now.placed in
     asked _ _ c.subscribe_said.ensures c.client_subscribe-answer.ensures
-    (subscribe-is es (is_more (fourth c.args.line.now es is c.args.f at) c.is_some.ensures c.if-is_some.false) (number_read c.args.line.now es is 1 (second c.args.line.now es is c.args.f at) c.number_at.ensures c.in_ok-qos.was)
-    (text_read c.args.line.now es is 2 (third c.args.line.now es is c.args.f at) zeros (roomy c.args.line.now c.requires) c.text_at.ensures.value c.text_at.ensures.buffer_after (sym c.ok.ensures.value ∙ c.in_ok-topic.was) ∙ ap Some (sym c.front.ensures)))
+    (subscribe-is es (is_more (fourth line es is c.args.array.now.at at) c.is_some.ensures c.if-is_some.false) (number_read line es is 1 (second line es is c.args.array.now.at at) c.number_at.ensures c.in_ok-qos.was)
+    (text_read line es is 2 (third line es is c.args.array.now.at at) zeros (array_roomy line c.args.array.now.is_array) c.text_at.ensures.value c.text_at.ensures.buffer_after (sym c.ok.ensures.value ∙ c.in_ok-topic.was) ∙ ap Some (sym c.front.ensures)))

@@ -24,7 +24,7 @@ rules-preserved-in_default c =
 
 pub topics-preserved : goal.topics-preserved
 topics-preserved c =
-    sym (some_passed _ _ (length c.line_at-line.result.now) c.topics.counter c.topics-test.true c.in-Some-next.is (sym c.in-Onward.ensures)) ∙ c.topics.invariant
+    sym (some_passed _ _ (length c.line_at-line.result.now) c.topics.counter c.topics-test.true c.in-Some-next.is (sym (rw c.new-known.ensures at c.in-Onward.ensures))) ∙ c.topics.invariant
 
 pub rules-smaller : goal.rules-smaller
 rules-smaller c =
@@ -38,7 +38,7 @@ rules-preserved c =
       | then-topics-test+in_default-next w ↦ some_end _ _ _ w.in_default-next.is
     ] in
     let line = here c.rules.invariant.0 c.if-rules-at.false c.line_at-line.ensures c.line_behind-at.ensures in (
-      here_passes line (sym c.in-Some.ensures) c.in-Some-topics.is (sym c.topics.invariant ∙ left) (sym c.if-eq_row_agrees.ensures) (sym (rw c.id.ensures at c.if-filter_row_agrees.ensures)),
+      here_passes line (sym c.in-Some.ensures) c.in-Some-topics.is (sym c.topics.invariant ∙ left) (sym c.if-eq_row_agrees.ensures) (sym (rw (c.id.ensures, c.new-known.ensures) at c.if-filter_row_agrees.ensures)),
       λ k. (every_here line (c.rules.invariant.1 k)).1,
     )
 
@@ -53,7 +53,7 @@ returns-in_default-topics c =
 pub returns-in-Agrees : goal.returns-in-Agrees
 returns-in-Agrees c =
     topic_decides (here c.rules.invariant.0 c.if-rules-at.false c.line_at-line.ensures c.line_behind-at.ensures) (sym c.in-Some.ensures) c.in-Some-topics.is
-    (sym c.topics.invariant ∙ some_passed _ _ (length c.line_at-line.result.now) c.topics.counter c.topics-test.true c.in-Some-next.is (sym c.in-Agrees.ensures))
+    (sym c.topics.invariant ∙ some_passed _ _ (length c.line_at-line.result.now) c.topics.counter c.topics-test.true c.in-Some-next.is (sym (rw c.new-known.ensures at c.in-Agrees.ensures)))
 
 pub returns-then-eq_row_agrees : goal.returns-then-eq_row_agrees
 returns-then-eq_row_agrees c =
@@ -61,5 +61,5 @@ returns-then-eq_row_agrees c =
     elim c.then-eq_row_agrees.branch [
       | then-eq_row_agrees-via-then-eq_row_agrees w ↦ eq_decides line (sym c.in-Some.ensures) c.in-Some-topics.is (sym w.if-eq_row_agrees.ensures)
       | then-eq_row_agrees-via-else-eq_row_agrees+then-filter_row_agrees w ↦
-          filter_decides line (sym c.in-Some.ensures) c.in-Some-topics.is (sym (rw w.id.ensures at w.if-filter_row_agrees.ensures))
+          filter_decides line (sym c.in-Some.ensures) c.in-Some-topics.is (sym (rw (w.id.ensures, c.new-known.ensures) at w.if-filter_row_agrees.ensures))
     ]

@@ -20,7 +20,7 @@ pub returns : goal.returns
 unfolding filter_rows get_all filter_codec filter_agrees
 returns c =
     let part = c.args.filters.now in
-    let test : List ℕ → Bool = λ b. filter_agrees c.args.rule c.args.id.now c.args.topic.now (filter_codec.get b) in
+    let test : List ℕ → Bool = λ b. filter_agrees c.args.rule c.args.id.now c.args.topic.now.text.now (filter_codec.get b) in
     let of_rows = YieldsList-from_rows 326 (length part) part c.chunks_exact.ensures.rest c.chunks_exact.ensures.size (omega arith) in
     any_from_yields_List test _ _ c.any.result c.any.ensures.ran of_rows (λ x b q k. search (rules, known_match))
-    ∙ (some_row-any test (rows 326 (length part) part) ∙ sym (some_map (filter_agrees c.args.rule c.args.id.now c.args.topic.now) filter_codec.get (rows 326 (length part) part)))
+    ∙ (some_row-any test (rows 326 (length part) part) ∙ sym (some_map (filter_agrees c.args.rule c.args.id.now c.args.topic.now.text.now) filter_codec.get (rows 326 (length part) part)))

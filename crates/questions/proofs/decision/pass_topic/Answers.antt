@@ -28,7 +28,7 @@ slice_bounds-text_agrees-end c =
 
 pub returns-then-text_agrees : goal.returns-then-text_agrees
 returns-then-text_agrees c =
-    sym (passed_plain c.args.topic.now c.args.line.now c.args.at (plain_string c.args.line.now c.args.at (sym c.in-Some.ensures)) (sym c.if-text_agrees.ensures) refl)
+    sym (passed_plain c.args.topic.now.text.now c.args.line.now c.args.at (plain_string c.args.line.now c.args.at (sym c.in-Some.ensures)) (sym c.if-text_agrees.ensures) refl)
 
 pub overflow_add-end : goal.overflow_add-end
 overflow_add-end c =
@@ -37,7 +37,7 @@ overflow_add-end c =
 
 pub returns-in-Some : goal.returns-in-Some
 returns-in-Some c =
-    sym (passed_plain c.args.topic.now c.args.line.now c.args.at (plain_string c.args.line.now c.args.at (sym c.in-Some.ensures)) (sym c.if-text_agrees.ensures) (sym c.element_behind.ensures))
+    sym (passed_plain c.args.topic.now.text.now c.args.line.now c.args.at (plain_string c.args.line.now c.args.at (sym c.in-Some.ensures)) (sym c.if-text_agrees.ensures) (sym c.element_behind.ensures))
 
 pub overflow_add-eq : goal.overflow_add-eq
 overflow_add-eq c =
@@ -62,9 +62,9 @@ slice_bounds-eq_agrees-end c =
 pub returns-then-eq_agrees : goal.returns-then-eq_agrees
 returns-then-eq_agrees c =
     let under = eq_to c.args.line.now c.args.at (sym c.in-Some-eq_text.ensures) in
-    sym (passed_eq c.args.topic.now c.args.line.now c.args.at under (sym c.if-eq_agrees.ensures) refl)
+    sym (passed_eq c.args.topic.now.text.now c.args.line.now c.args.at under (sym c.if-eq_agrees.ensures) refl)
 
 pub returns-in-Some-eq_text : goal.returns-in-Some-eq_text
 returns-in-Some-eq_text c =
     let under = eq_to c.args.line.now c.args.at (sym c.in-Some-eq_text.ensures) in
-    sym (passed_eq c.args.topic.now c.args.line.now c.args.at under (sym c.if-eq_agrees.ensures) (sym c.element_behind-in-Some-eq_text.ensures))
+    sym (passed_eq c.args.topic.now.text.now c.args.line.now c.args.at under (sym c.if-eq_agrees.ensures) (sym c.element_behind-in-Some-eq_text.ensures))

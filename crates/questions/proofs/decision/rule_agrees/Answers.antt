@@ -19,9 +19,9 @@ returns-then-eq_row_agrees c =
     c.if-eq_row_agrees.true
     ∙ elim c.if-some_topic_agrees.branch [
       | then-some_topic_agrees w ↦
-          sym (line_by _ _ _ _ _ _ _ (sym c.in-Some.ensures) c.in-Some-topics.is c.first_element.ensures (sym w.if-some_topic_agrees.ensures) refl)
+          sym (line_by _ _ _ _ _ _ _ (sym c.in-Some.ensures) c.in-Some-topics.is refl (sym w.if-some_topic_agrees.ensures) refl)
       | else-some_topic_agrees w ↦
-          sym (line_by _ _ _ _ _ _ _ (sym c.in-Some.ensures) c.in-Some-topics.is c.first_element.ensures (sym w.if-some_topic_agrees.ensures)
+          sym (line_by _ _ _ _ _ _ _ (sym c.in-Some.ensures) c.in-Some-topics.is refl (sym w.if-some_topic_agrees.ensures)
           (sym w.eq_row_agrees.ensures ∙ (sym w.value-is ∙ c.if-eq_row_agrees.true)))
     ]
 
@@ -30,7 +30,7 @@ returns-else-eq_row_agrees c =
     elim c.if-some_topic_agrees.branch [
       | then-some_topic_agrees w ↦ absurd (true≢false (sym w.if-some_topic_agrees.true ∙ (sym w.value-is ∙ c.if-eq_row_agrees.false)))
       | else-some_topic_agrees w ↦
-          rw c.id.ensures at c.filter_row_agrees.ensures
-          ∙ sym (line_by _ _ _ _ _ _ _ (sym c.in-Some.ensures) c.in-Some-topics.is c.first_element.ensures (sym w.if-some_topic_agrees.ensures)
+          rw (c.id.ensures, c.new.ensures) at c.filter_row_agrees.ensures
+          ∙ sym (line_by _ _ _ _ _ _ _ (sym c.in-Some.ensures) c.in-Some-topics.is refl (sym w.if-some_topic_agrees.ensures)
           (sym w.eq_row_agrees.ensures ∙ (sym w.value-is ∙ c.if-eq_row_agrees.false)))
     ]

@@ -4,7 +4,8 @@ use Rattle.std.specs.Result.{result_ok}
 use Rattle.store.specs.declared.Counts.{Counts}
 use Rattle.store.specs.Store.{store_length}
 use Rattle.store.specs.Opening.{says}
-use Rattle.store.proofs.OpenLaws.{missing, passed_on, out_told, in_told, faulty_told, fine_told, fault_counts, fault_length, fault_over, fault_text, open_refused, open_done}
+use Rattle.text.proofs.TryLaws.{missing, passed_on}
+use Rattle.store.proofs.OpenLaws.{out_told, in_told, faulty_told, fine_told, fault_counts, fault_length, fault_over, fault_text, open_refused, open_done}
 use Rattle.store.proofs.opening.open.Goals as goal
 
 pub returns-in_err-counts : goal.returns-in_err-counts
