@@ -1,7 +1,7 @@
 -- The numbers that the calls on a store answer are small: a rule is at most 256, a line at most 257, a code 4, a QoS 2. Assumes nothing.
 use Prim.Native.Nat.{ℕ, suc, ◌+◌, ◌≤◌, ◌<◌}
 use mathlib.Core.Path.{◌≡◌, refl, ap}
-use mathlib.Core.Bool.{Bool, true, false, ◌||◌, cond, not, ◌&&◌}
+use mathlib.Core.Bool.{Bool, true, false, ◌||◌, cond}
 use mathlib.Core.List.{List, [], ◌∷◌}
 use Rattle.std.specs.Prelude.{Option, None, Some, Result, Ok, Err}
 use Rattle.std.specs.Option.{option_map}
@@ -19,8 +19,7 @@ use Rattle.rule.specs.RuleText.{read_rule, fault_in, text_fault, rule_on, rules_
 use Rattle.rule.specs.declared.Fault.{Fault}
 use Rattle.rule.specs.Identity.{Client, superuser}
 use Rattle.rule.specs.declared.Refusal.{Refusal}
-use Rattle.rule.specs.declared.Refusal.TheVariants.{TooLong, OutOfRange, Malformed, Counts as CountsCause, NotJson, NotARule, FilledTooLong, FiltersFull, EqsFull, NotesFull}
-use Rattle.store.specs.Store.{over, counts_fit, store_length, FilterRow, EqRow, View}
+use Rattle.store.specs.Store.{over, counts_fit, FilterRow, EqRow, View}
 use Rattle.store.specs.View.{faultless, openable, well_formed, view}
 use Rattle.store.specs.Opening.{open_fault, told}
 use Rattle.store.specs.declared.Counts.{Counts}
@@ -36,15 +35,11 @@ use Rattle.mqtt_acl.proofs.Reading.{open_back}
 
 first_small : (a b : Bool) (n : ℕ) → first ((a, 1) ∷ (b, 2) ∷ []) ≡ Some n → n ≤ 2
 unfolding first
-first_small true b n e = let h : 1 ≡ n = cc in omega arith
-first_small false true n e = let h : 2 ≡ n = cc in omega arith
-first_small false false n e = let z : ◌≡◌ {A = ℕ} 0 1 = cc in omega arith
+first_small a b n e = grind arith
 
 pub first-none : (a b : Bool) → first ((a, 1) ∷ (b, 2) ∷ []) ≡ None → b ≡ false
 unfolding first
-first-none true b e = cc
-first-none false true e = cc
-first-none false false e = refl
+first-none a b e = grind arith
 
 pub cause_small : (q : Question) (n : ℕ) → question_cause q ≡ Some n → n ≤ 2
 unfolding question_cause
@@ -55,8 +50,7 @@ cause_small (publish earlier c topic disconnect) n e = first_small (client_over 
 -- ---- codes and QoS
 
 cond-some : (b : Bool) (n m : ℕ) → cond b (Some n) None ≡ Some m → n ≡ m
-cond-some true n m e = cc
-cond-some false n m e = cc
+cond-some b n m e = grind arith
 
 kept_small : (q : Question) (code : ℕ) → question_cause q ≡ None → keeps q ≡ Some code → code ≤ 4
 unfolding question_cause keeps
@@ -87,17 +81,11 @@ module _ (some_filter : (FilterRow → Bool) → Bool) (some_eq : (EqRow → Boo
 
 lines_few : (text : List ℕ) → text_fault text ≡ None → length (lines text) ≤ lines_limit
 unfolding text_fault
-lines_few text e = at (ltb lines_limit (length (lines text))) refl e
-  where
-    at : (b : Bool) → ltb lines_limit (length (lines text)) ≡ b
-        → cond b (Some (record { cause = TooLong; line = suc lines_limit })) (fault_in 1 (lines text)) ≡ None → length (lines text) ≤ lines_limit
-    at true q k = let z : ◌≡◌ {A = ℕ} 0 1 = cc in absurd (omega arith)
-    at false q k = ltb-false lines_limit (length (lines text)) q
+lines_few text e = grind (arith, ltb-false)
 
 faultless_none : (o : Option Fault) → faultless o ≡ true → o ≡ None
 unfolding faultless
-faultless_none None e = refl
-faultless_none (Some f) e = cc
+faultless_none o e = grind arith
 
 -- "over 256 lines" is refused
 rules_few : (v : View) → well_formed v ≡ true → length (rules_of v.text) ≤ 256
@@ -200,30 +188,15 @@ fault-line n (line ∷ rest) f e = by (read_rule line) (fault-line (suc n) rest 
 
 text_line : (text : List ℕ) (f : Fault) → text_fault text ≡ Some f → f.line ≤ 257
 unfolding text_fault
-text_line text f e = at (ltb lines_limit (length (lines text))) refl e
-  where
-    at : (b : Bool) → ltb lines_limit (length (lines text)) ≡ b
-        → cond b (Some (record { cause = TooLong; line = suc lines_limit })) (fault_in 1 (lines text)) ≡ Some f → f.line ≤ 257
-    at true q k = let is : record { cause = TooLong; line = suc lines_limit } ≡ f = cc in omega (arith, ap (λ (g : Fault). g.line) is)
-    at false q k = omega (arith, ltb-false lines_limit (length (lines text)) q, fault-line 1 (lines text) f k)
+text_line text f e = grind (arith, ltb-false, fault-line)
 
 open_line : (c : Counts) (text : List ℕ) (room : ℕ) (f : Fault) → open_fault c text room ≡ Some f → f.line ≤ 257
 unfolding open_fault
-open_line c text room f e = by (not (counts_fit c && eqb room (store_length c))) (ltb c.bytes (length text)) e
-  where
-    by : (a b : Bool) → cond a (Some (record { cause = CountsCause; line = 0 })) (cond b (Some (record { cause = TooLong; line = 0 })) (text_fault text)) ≡ Some f
-        → f.line ≤ 257
-    by true b k = let is : record { cause = CountsCause; line = 0 } ≡ f = cc in omega (arith, ap (λ (g : Fault). g.line) is)
-    by false true k = let is : record { cause = TooLong; line = 0 } ≡ f = cc in omega (arith, ap (λ (g : Fault). g.line) is)
-    by false false k = text_line text f k
+open_line c text room f e = grind (arith, text_line)
 
 pub open_small : (c : Counts) (text : List ℕ) (room : ℕ) → open_number (option_map told (open_fault c text room)) ≤ 66047
 unfolding open_number told
-open_small c text room = by (open_fault c text room) refl
-  where
-    by : (o : Option Fault) → open_fault c text room ≡ o → open_number (option_map told o) ≤ 66047
-    by None e = omega arith
-    by (Some f) e = omega (arith, number_small f.cause, open_line c text room f e)
+open_small c text room = grind (arith, number_small, open_line)
 
 -- every answer of opening is what its number says
 pub open_read_back : (c : Counts) (text : List ℕ) (room : ℕ)
