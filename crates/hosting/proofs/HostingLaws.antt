@@ -4,9 +4,10 @@ use native.Mathlib.Omega.{arith}
 use mathlib.Core.Path.{◌≡◌, refl, sym, ap, ◌∙◌}
 use mathlib.Core.Bool.{Bool, true, false, ◌&&◌, ◌||◌, not, cond, beq, true≢false, and-false, or-true}
 use mathlib.Core.List.{List, [], ◌∷◌, ◌++◌, map, Memᴰ}
-use Rattle.std.specs.Prelude.{Option, None, Some}
+use Rattle.std.specs.Prelude.{Option, None, Some, sum_by}
 use Rattle.std.specs.List.{list_all, starts_with}
 use Rattle.text.specs.Maybe.{bind}
+use Rattle.std.proofs.lemmas.List.Sums.{sum_by-cons}
 use borrow.Author.Tests.{eq-eqb, ne_eqb, eqb-true, ltb-false}
 use lib.Dec.{eqb, ltb}
 use lib.ListN.{length, take, drop, length-append, length-map}
@@ -16,8 +17,8 @@ use Rattle.text.proofs.Laws.{and_split, or_split, isnt, same_itself, begins-take
 use Rattle.topic.specs.Topic.{Level, plus, hash, levels, is_only, is_plus, is_hash, metadata, ends, takes_level, takes, dollar_rule, levels_match, levels_if, checked_levels, tree_match, valid_filter}
 use Rattle.table.specs.Table.{some_row, keep, add, add_all, change}
 use Rattle.table.proofs.TableLaws.{some_keep, some_map, some_on, present, none as none_rows, none_at, none_of, member, length-keep, some_add_all}
-use Rattle.json_text.specs.Lines.{lines, line_at, next_line}
-use Rattle.json_text.proofs.LineLaws.{lines_here, lines_past, line_within, next_by}
+use Rattle.json_text.specs.Lines.{lines, line_at, lf, first_line, with_byte, extend_line}
+use Rattle.json_text.proofs.LineLaws.{lines_here}
 use Rattle.rule.specs.Limits.{text_limit}
 use Rattle.rule.specs.Rule as spec
 use Rattle.rule.specs.Rule.{Meaning, TopicOf, is_template, topic_means, topic_of}
@@ -265,26 +266,59 @@ count_small true (Some (EqTemplate p)) = omega arith
 count_small false (Some (EqTemplate p)) = omega arith
 count_small eq None = omega arith
 
--- the loop over the lines
-abbrev pub OnLines : Bool → List ℕ → ℕ → ℕ → Type 0
-OnLines eq text n at = n + templates_of eq (rules_of (drop at text)) ≡ templates_of eq (rules_of text)
+-- ---- the loop over the lines
 
-pub on_first : (eq : Bool) (text : List ℕ) → OnLines eq text 0 0
-on_first eq text = omega arith
+-- a line has no LF
+first_again : (text : List ℕ) → first_line (first_line text) ≡ first_line text
+unfolding first_line
+first_again [] = refl
+first_again (b ∷ text) = at (eqb b lf) refl (first_again text)
+  where
+    at : (e : Bool) → eqb b lf ≡ e → first_line (first_line text) ≡ first_line text → first_line (cond e [] (b ∷ first_line text)) ≡ cond e [] (b ∷ first_line text)
+    at true q h = refl
+    at false q h = rw q (ap (λ (rest : List ℕ). b ∷ rest) h)
 
-pub onward_step : (eq : Bool) (text : List ℕ) (n at more next : ℕ) → at < length text → more ≡ templates_in eq (listed (rule_on (read_rule (line_at text at))))
-    → next ≡ next_line text at → OnLines eq text n at → OnLines eq text (n + more) next
-unfolding templates_of rules_of
-onward_step eq text n at more next h is goes left =
-    let step = ap (λ (ls : List (List ℕ)). templates_of eq (map (λ line. rule_on (read_rule line)) ls)) (lines_here text at h) in
-    let rest = ap (λ (k : ℕ). templates_of eq (map (λ line. rule_on (read_rule line)) (lines (drop k text)))) goes in
-    omega arith
+pub line_whole : (text : List ℕ) {line : List ℕ} {rest : List (List ℕ)} → lines text ≡ line ∷ rest → line_at line 0 ≡ line
+unfolding lines line_at
+line_whole [] e = cc
+line_whole (b ∷ text) {line = line} e =
+    let here = lines_here (b ∷ text) 0 (omega arith) in
+    let is : first_line (b ∷ text) ≡ line = cc in
+    rw (← is) (first_again (b ∷ text))
 
-pub onward_end : (eq : Bool) (text : List ℕ) (n at : ℕ) → length text ≤ at → OnLines eq text n at → n ≡ templates_of eq (rules_of text)
-unfolding templates_of rules_of
-onward_end eq text n at h left =
-    let none_left = ap (λ (ls : List (List ℕ)). templates_of eq (map (λ line. rule_on (read_rule line)) ls)) (lines_past text at h) in
-    omega arith
+-- no more bytes in the lines than in the text
+bytes_most : (text : List ℕ) → sum_by length (lines text) ≤ length text
+unfolding lines with_byte extend_line
+bytes_most [] = omega arith
+bytes_most (b ∷ text) = by (eqb b lf) (lines text) (bytes_most text)
+  where
+    by : (e : Bool) (rest : List (List ℕ)) → sum_by length rest ≤ length text → sum_by length (cond e ([] ∷ rest) (extend_line b rest)) ≤ suc (length text)
+    by true rest h = omega (arith, sum_by-cons length [] rest)
+    by false [] h = omega arith
+    by false (line ∷ rest) h = omega (arith, sum_by-cons length line rest, sum_by-cons length (b ∷ line) rest)
+
+-- what is counted of a kind, with what the lines left have, is all; and no more are counted than bytes passed
+pub record CountedTo (eq : Bool) (text : List ℕ) (n : ℕ) (left : List (List ℕ)) : Type 0 where
+  pub all : n + templates_of eq (map (λ line. rule_on (read_rule line)) left) ≡ templates_of eq (rules_of text)
+  pub fits : n + sum_by length left ≤ length text
+
+pub counted_none : (eq : Bool) (text : List ℕ) → CountedTo eq text 0 (lines text)
+unfolding rules_of
+counted_none eq text = record { all = omega arith; fits = omega (arith, bytes_most text) }
+
+module _ (eq : Bool) (text : List ℕ) (n more : ℕ) (line : List ℕ) {left rest : List (List ℕ)} (e : left ≡ line ∷ rest) (few : more ≤ length line) where
+  pub counted_fits : CountedTo eq text n left → n + more + sum_by length rest ≤ length text
+  counted_fits c = omega (arith, c.fits, ap (sum_by length) e, sum_by-cons length line rest)
+
+  pub counted_line : more ≡ templates_in eq (listed (rule_on (read_rule line))) → CountedTo eq text n left → CountedTo eq text (n + more) rest
+  unfolding templates_of
+  counted_line is c =
+      let all = ap (λ (ls : List (List ℕ)). templates_of eq (map (λ line. rule_on (read_rule line)) ls)) e in
+      record { all = omega (arith, c.all); fits = counted_fits c }
+
+pub counted_all : (eq : Bool) (text : List ℕ) (n : ℕ) {left : List (List ℕ)} → left ≡ [] → CountedTo eq text n left → n ≡ templates_of eq (rules_of text)
+unfolding templates_of
+counted_all eq text n e c = let all = ap (λ (ls : List (List ℕ)). templates_of eq (map (λ line. rule_on (read_rule line)) ls)) e in omega (arith, c.all)
 
 -- both counts together
 pub both_counts : (text : List ℕ) {n m : ℕ} → n ≡ templates_of false (rules_of text) → m ≡ templates_of true (rules_of text) → record { filters = n; eqs = m } ≡ templates text
@@ -325,14 +359,6 @@ used_small s {f} {e} {n} is = by (view s) refl is
         let e-is = ap (λ (u : Used). u.eqs) all in
         let n-is = ap (λ (u : Used). u.notes) all in
         (omega (arith, w.filters.fits, c.filters_most), omega (arith, w.eqs.fits, c.eqs_most), omega (arith, w.notes.fits, c.notes_most))
-
--- a line ends before the next begins
-pub line_before : (text : List ℕ) (at : ℕ) → at < length text → at + length (line_at text at) ≤ next_line text at
-line_before text at h = let end = line_within text at (omega arith) in by (ltb (at + length (line_at text at)) (length text)) refl
-  where
-    by : (b : Bool) → ltb (at + length (line_at text at)) (length text) ≡ b → at + length (line_at text at) ≤ next_line text at
-    by true q = let is = next_by text at q in omega arith
-    by false q = let is = next_by text at q in omega (arith, ltb-false (at + length (line_at text at)) (length text) q, line_within text at (omega arith))
 
 -- adding brings no more rows than there are new ones
 added : {Row : Type 0} (same_row : Row → Row → Bool) (new rows : List Row) → length (add_all same_row new rows) ≤ length rows + length new

@@ -9,7 +9,7 @@ ghost use Rattle.hosting.specs.Hosting as spec;
 ghost use Rattle.hosting.specs.Walk as walk;
 
 use events::templates::{first_topic, next_topic};
-use json_text::splitting::{line_at, next_line};
+use json_text::splitting::Lines;
 use rule::Topic;
 use rule::topic_list::topic_at;
 use store::check;
@@ -56,15 +56,15 @@ fn counted(topic: Option<Topic>) -> Templates
     }
 }
 
-// The templates of the rule whose line begins at `at`.
-fn line_templates(rules: &[u8], at: usize) -> Templates
-    ensures value { result ≡ spec.line_templates (line_at rules.now at) }
-    ensures filters_in_bounds { (result.filters ≤ length (line_at rules.now at)) × (result.eqs ≤ length (line_at rules.now at)) }
+// The templates of a rule by its line.
+fn line_templates(line: &[u8]) -> Templates
+    requires { line_at line.now 0 ≡ line.now }
+    ensures value { result ≡ spec.line_templates line.now }
+    ensures in_bounds { (result.filters ≤ length line.now) × (result.eqs ≤ length line.now) }
 {
-    let line = line_at(rules, at);
     let mut filters = 0;
     let mut eqs = 0;
-    let mut next = first_topic(rules, at);
+    let mut next = first_topic(line, 0);
     // Each topic takes a byte of its line at least, so there are no more than bytes.
     for _ in 0..line.len() {
         let Some(p) = next else {
@@ -73,7 +73,7 @@ fn line_templates(rules: &[u8], at: usize) -> Templates
         let here = counted(topic_at(line, p));
         filters += here.filters;
         eqs += here.eqs;
-        next = next_topic(rules, at, p);
+        next = next_topic(line, 0, p);
     }
     Templates { filters, eqs }
 }
@@ -85,12 +85,10 @@ pub fn count_templates(rules: &[u8]) -> Templates
 {
     let mut filters = 0;
     let mut eqs = 0;
-    let mut at = 0;
-    while at < rules.len() {
-        let here = line_templates(rules, at);
+    for line in Lines::new(rules) {
+        let here = line_templates(line);
         filters += here.filters;
         eqs += here.eqs;
-        at = next_line(rules, at);
     }
     Templates { filters, eqs }
 }

@@ -15,8 +15,8 @@ use Rattle.hosting.proofs.line_templates.Goals as goal
 
 pub loop-init : goal.loop-init
 loop-init c =
-    let is = c.first_topic-next.ensures ∙ ap first_topic (sym c.line_at-line.ensures) in
-    (rw sub-zero (left_start false c.line_at-line.result.now is), rw sub-zero (left_start true c.line_at-line.result.now is), omega arith, omega arith, omega arith)
+    let is = c.first_topic-next.ensures ∙ ap first_topic c.requires in
+    (rw sub-zero (left_start false c.args.line.now is), rw sub-zero (left_start true c.args.line.now is), omega arith, omega arith, omega arith)
 
 pub overflow_add-filters : goal.overflow_add-filters
 overflow_add-filters c =
@@ -28,8 +28,8 @@ overflow_add-eqs c =
 
 pub loop-preserved : goal.loop-preserved
 loop-preserved c =
-    let line = c.line_at-line.result.now in
-    let onward = c.next_topic-next.ensures ∙ ap (λ (ls : List ℕ). next_topic ls c.in-Some.p) (sym c.line_at-line.ensures) in
+    let line = c.args.line.now in
+    let onward = c.next_topic-next.ensures ∙ ap (λ (ls : List ℕ). next_topic ls c.in-Some.p) c.requires in
     let filters = ap (λ (t : Templates). t.filters) c.counted-here.ensures in
     let eqs = ap (λ (t : Templates). t.eqs) c.counted-here.ensures in
     let filter = count_small false c.topic_at.result in
@@ -44,18 +44,16 @@ loop-preserved c =
 
 pub returns-in_default : goal.returns-in_default
 returns-in_default c =
-    let line = c.line_at-line.result.now in
-    let bound = ap length c.line_at-line.ensures in
+    let line = c.args.line.now in
     record {
-      value = both_here line (left_none false line _ _ c.in_default.is c.loop.invariant.0) (left_none true line _ _ c.in_default.is c.loop.invariant.1) ∙ ap line_templates c.line_at-line.ensures;
-      filters_in_bounds = (omega (arith, bound, c.loop.invariant.2, c.loop.invariant.4), omega (arith, bound, c.loop.invariant.3, c.loop.invariant.4));
+      value = both_here line (left_none false line _ _ c.in_default.is c.loop.invariant.0) (left_none true line _ _ c.in_default.is c.loop.invariant.1);
+      in_bounds = (omega (arith, c.loop.invariant.2, c.loop.invariant.4), omega (arith, c.loop.invariant.3, c.loop.invariant.4));
     }
 
 pub returns-after-loop : goal.returns-after-loop
 returns-after-loop c =
-    let line = c.line_at-line.result.now in
-    let bound = ap length c.line_at-line.ensures in
+    let line = c.args.line.now in
     record {
-      value = both_here line (left_out false line _ _ _ (omega arith) c.loop.invariant.0) (left_out true line _ _ _ (omega arith) c.loop.invariant.1) ∙ ap line_templates c.line_at-line.ensures;
-      filters_in_bounds = (omega (arith, bound, c.loop.invariant.2, c.loop.invariant.4), omega (arith, bound, c.loop.invariant.3, c.loop.invariant.4));
+      value = both_here line (left_out false line _ _ _ (omega arith) c.loop.invariant.0) (left_out true line _ _ _ (omega arith) c.loop.invariant.1);
+      in_bounds = (omega (arith, c.loop.invariant.2, c.loop.invariant.4), omega (arith, c.loop.invariant.3, c.loop.invariant.4));
     }
