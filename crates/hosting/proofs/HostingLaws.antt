@@ -1,5 +1,5 @@
 -- Laws of what a host asks, and the claims of specs/Claims.antt. Assumes nothing.
-use Prim.Native.Nat.{ℕ, zero, suc, ◌+◌, ◌-◌, ◌≤◌, ◌<◌}
+use Prim.Native.Nat.{ℕ, zero, suc, ◌+◌, ◌-◌, ◌≤◌}
 use native.Mathlib.Omega.{arith}
 use mathlib.Core.Path.{◌≡◌, refl, sym, ap, ◌∙◌}
 use mathlib.Core.Bool.{Bool, true, false, ◌&&◌, ◌||◌, not, cond, beq, true≢false, and-false, or-true}
@@ -8,9 +8,9 @@ use Rattle.std.specs.Prelude.{Option, None, Some, sum_by}
 use Rattle.std.specs.List.{list_all, starts_with}
 use Rattle.text.specs.Maybe.{bind}
 use Rattle.std.proofs.lemmas.List.Sums.{sum_by-cons}
-use borrow.Author.Tests.{eq-eqb, ne_eqb, eqb-true, ltb-false}
-use lib.Dec.{eqb, ltb}
-use lib.ListN.{length, take, drop, length-append, length-map}
+use borrow.Author.Tests.{eq-eqb, ne_eqb, eqb-true}
+use lib.Dec.{eqb}
+use lib.ListN.{length, take, length-append, length-map}
 use Rattle.text.specs.Ascii.{ascii}
 use Rattle.text.specs.Text.{same, occurs, replace_from, replace}
 use Rattle.text.proofs.Laws.{and_split, or_split, isnt, same_itself, begins-take}
@@ -18,6 +18,7 @@ use Rattle.topic.specs.Topic.{Level, plus, hash, levels, is_only, is_plus, is_ha
 use Rattle.table.specs.Table.{some_row, keep, add, add_all, change}
 use Rattle.table.proofs.TableLaws.{some_keep, some_map, some_on, present, none as none_rows, none_at, none_of, member, length-keep, some_add_all}
 use Rattle.json_text.specs.Lines.{lines, line_at, lf, first_line, with_byte, extend_line}
+use Rattle.json_text.specs.Access.{next_item, places, places_from}
 use Rattle.json_text.proofs.LineLaws.{lines_here}
 use Rattle.rule.specs.Limits.{text_limit}
 use Rattle.rule.specs.Rule as spec
@@ -34,7 +35,7 @@ use Rattle.store.proofs.ViewLaws.{view-well_formed}
 use Rattle.store.proofs.OpenLaws.{fit_range}
 use Rattle.events.specs.Event.{filled_filters, filled_eqs, filter_rows, eq_rows, note_rows, of_session, clears, cleared, filter_change, new_eqs, note_change, effect}
 use Rattle.events.specs.Templates.{first_topic, next_topic, if_template, template_at, filled_template, filled_from}
-use Rattle.events.proofs.TemplateWalk.{walk_line, walk_topic, walk_end, walk_out}
+use Rattle.events.proofs.TemplateWalk.{walk_line}
 use Rattle.hosting.specs.Walk.{count_of}
 use Rattle.store.specs.Check.{shape_of}
 use Rattle.store.specs.declared.Shape.{Shape}
@@ -225,46 +226,57 @@ count_here eq n id name line p e = by (bind (value_of line p) topic_of) ∙ ap (
     by None = refl
     by (Some t) = tests t (over text_limit t.text.text) (is_template t.text.text) t.eq eq
 
--- the loop over a line's topics: what is counted and what is left is all, of this kind
-abbrev pub Left : Bool → List ℕ → ℕ → ℕ → Option ℕ → Type 0
-Left eq line n turns next = n + length (of_kind eq (filled_from turns 0 [] None line next)) ≡ templates_in eq (listed (rule_on (read_rule line)))
-
-pub left_start : (eq : Bool) (line : List ℕ) {first : Option ℕ} → first ≡ first_topic line → Left eq line 0 (length line) first
-left_start eq line e =
-    let all =
-    ap (λ (p : Option ℕ). length (of_kind eq (filled_from (length line) 0 [] None line p))) e
-    ∙ (ap (λ (fs : List Filled). length (of_kind eq fs)) (walk_line 0 [] None line (length line) (omega arith)) ∙ topics_once eq 0 [] None (listed (rule_on (read_rule line)))) in
-    omega arith
-
-pub left_step : (eq : Bool) (line : List ℕ) (n turns : ℕ) {place next : Option ℕ} {p : ℕ} {answer : Option Topic} → 0 < turns → place ≡ Some p
-    → answer ≡ topic_answer (bind (value_of line p) topic_of) → next ≡ next_topic line p → Left eq line n turns place → Left eq line (n + count_of eq answer) (turns - 1) next
-left_step eq line n turns {next = next} {p = p} {answer} h at is onward left =
-    let step = ap (λ (fs : List Filled). length (of_kind eq fs)) (walk_topic 0 [] None line turns h at) ∙ kind_append eq (filled_template 0 [] None (template_at line p)) _ in
-    let here = count_here eq 0 [] None line p is in
-    let rest = ap (λ (q : Option ℕ). length (of_kind eq (filled_from (turns - 1) 0 [] None line q))) onward in
-    omega arith
-
-pub left_none : (eq : Bool) (line : List ℕ) (n turns : ℕ) {place : Option ℕ} → place ≡ None → Left eq line n turns place → n ≡ templates_in eq (listed (rule_on (read_rule line)))
-left_none eq line n turns e left =
-    let end = ap (λ (fs : List Filled). length (of_kind eq fs)) (walk_end 0 [] None line turns e) in
-    let nothing : length (of_kind eq []) ≡ 0 = unfold of_kind in refl in
-    omega arith
-
-pub left_out : (eq : Bool) (line : List ℕ) (n turns : ℕ) (place : Option ℕ) → turns ≤ 0 → Left eq line n turns place → n ≡ templates_in eq (listed (rule_on (read_rule line)))
-left_out eq line n turns place h left =
-    let end = ap (λ (fs : List Filled). length (of_kind eq fs)) (walk_out 0 [] None line turns place h) in
-    let nothing : length (of_kind eq []) ≡ 0 = unfold of_kind in refl in
-    omega arith
-
 pub count_small : (eq : Bool) (t : Option Topic) → count_of eq t ≤ 1
 unfolding count_of
-count_small eq (Some (Filter p)) = omega arith
-count_small true (Some (Template p)) = omega arith
-count_small false (Some (Template p)) = omega arith
-count_small eq (Some (Eq p)) = omega arith
-count_small true (Some (EqTemplate p)) = omega arith
-count_small false (Some (EqTemplate p)) = omega arith
-count_small eq None = omega arith
+count_small eq t = grind arith
+
+-- ---- the loop over a line's topics
+
+-- 1 for a template of this kind at a place, else 0
+unfoldable pub count_at : Bool → List ℕ → ℕ → ℕ
+count_at eq line p = length (of_kind eq (filled_template 0 [] None (template_at line p)))
+
+module _ (eq : Bool) (line : List ℕ) where
+  places_counted : (most : ℕ) (next : Option ℕ) → length (of_kind eq (filled_from most 0 [] None line next)) ≡ sum_by (count_at eq line) (places most line next)
+  unfolding filled_from places of_kind count_at next_topic
+  places_counted zero next = refl
+  places_counted (suc most) None = refl
+  places_counted (suc most) (Some p) =
+      omega (arith, kind_append eq (filled_template 0 [] None (template_at line p)) (filled_from most 0 [] None line (next_item line p)), places_counted most (next_item line p), sum_by-cons (count_at eq line) p (places most line (next_item line p)))
+
+  places_most : (most : ℕ) (next : Option ℕ) → length (places most line next) ≤ most
+  unfolding places
+  places_most zero next = omega arith
+  places_most (suc most) None = omega arith
+  places_most (suc most) (Some p) = omega (arith, places_most most (next_item line p))
+
+  -- what is counted of a kind, with the topics left, is all; and no more are counted than topics passed
+  pub record CountedIn (n : ℕ) (left : List ℕ) : Type 0 where
+    pub all : n + sum_by (count_at eq line) left ≡ templates_in eq (listed (rule_on (read_rule line)))
+    pub fits : n + length left ≤ length line + 1
+
+  pub counted_first : {first : Option ℕ} → first ≡ first_topic line → CountedIn 0 (places_from line first)
+  unfolding places_from
+  counted_first {first} e =
+      let most = suc (length line) in
+      let walked = ap (λ (fs : List Filled). length (of_kind eq fs)) (ap (filled_from most 0 [] None line) e ∙ walk_line 0 [] None line most (omega arith)) in
+      record {
+        all = omega (arith, places_counted most first, walked, topics_once eq 0 [] None (listed (rule_on (read_rule line))));
+        fits = omega (arith, places_most most first);
+      }
+
+  pub counted_topic : (n p : ℕ) {left rest : List ℕ} {answer : Option Topic} → left ≡ p ∷ rest → answer ≡ topic_answer (bind (value_of line p) topic_of)
+      → CountedIn n left → CountedIn (n + count_of eq answer) rest
+  unfolding count_at
+  counted_topic n p {rest = rest} {answer} e is c =
+      let here = count_here eq 0 [] None line p is in
+      record {
+        all = omega (arith, c.all, ap (sum_by (count_at eq line)) e, sum_by-cons (count_at eq line) p rest, here);
+        fits = omega (arith, c.fits, ap length e, count_small eq answer);
+      }
+
+  pub counted_topics : (n : ℕ) {left : List ℕ} → left ≡ [] → CountedIn n left → n ≡ templates_in eq (listed (rule_on (read_rule line)))
+  counted_topics n e c = omega (arith, c.all, ap (sum_by (count_at eq line)) e)
 
 -- ---- the loop over the lines
 
@@ -286,29 +298,33 @@ line_whole (b ∷ text) {line = line} e =
     let is : first_line (b ∷ text) ≡ line = cc in
     rw (← is) (first_again (b ∷ text))
 
--- no more bytes in the lines than in the text
-bytes_most : (text : List ℕ) → sum_by length (lines text) ≤ length text
+-- a line with its LF takes no more bytes than the text, but for an LF that the last may lack
+abbrev pub room_of : List (List ℕ) → ℕ
+room_of = sum_by (λ line. length line + 1)
+
+room_most : (text : List ℕ) → room_of (lines text) ≤ length text + 1
 unfolding lines with_byte extend_line
-bytes_most [] = omega arith
-bytes_most (b ∷ text) = by (eqb b lf) (lines text) (bytes_most text)
+room_most [] = omega arith
+room_most (b ∷ text) = by (eqb b lf) (lines text) (room_most text)
   where
-    by : (e : Bool) (rest : List (List ℕ)) → sum_by length rest ≤ length text → sum_by length (cond e ([] ∷ rest) (extend_line b rest)) ≤ suc (length text)
-    by true rest h = omega (arith, sum_by-cons length [] rest)
+    by : (e : Bool) (rest : List (List ℕ)) → room_of rest ≤ length text + 1 → room_of (cond e ([] ∷ rest) (extend_line b rest)) ≤ suc (length text) + 1
+    by true rest h = omega (arith, sum_by-cons (λ (line : List ℕ). length line + 1) [] rest)
     by false [] h = omega arith
-    by false (line ∷ rest) h = omega (arith, sum_by-cons length line rest, sum_by-cons length (b ∷ line) rest)
+    by false (line ∷ rest) h =
+        omega (arith, sum_by-cons (λ (line : List ℕ). length line + 1) line rest, sum_by-cons (λ (line : List ℕ). length line + 1) (b ∷ line) rest)
 
 -- what is counted of a kind, with what the lines left have, is all; and no more are counted than bytes passed
 pub record CountedTo (eq : Bool) (text : List ℕ) (n : ℕ) (left : List (List ℕ)) : Type 0 where
   pub all : n + templates_of eq (map (λ line. rule_on (read_rule line)) left) ≡ templates_of eq (rules_of text)
-  pub fits : n + sum_by length left ≤ length text
+  pub fits : n + room_of left ≤ length text + 1
 
 pub counted_none : (eq : Bool) (text : List ℕ) → CountedTo eq text 0 (lines text)
 unfolding rules_of
-counted_none eq text = record { all = omega arith; fits = omega (arith, bytes_most text) }
+counted_none eq text = record { all = omega arith; fits = omega (arith, room_most text) }
 
-module _ (eq : Bool) (text : List ℕ) (n more : ℕ) (line : List ℕ) {left rest : List (List ℕ)} (e : left ≡ line ∷ rest) (few : more ≤ length line) where
-  pub counted_fits : CountedTo eq text n left → n + more + sum_by length rest ≤ length text
-  counted_fits c = omega (arith, c.fits, ap (sum_by length) e, sum_by-cons length line rest)
+module _ (eq : Bool) (text : List ℕ) (n more : ℕ) (line : List ℕ) {left rest : List (List ℕ)} (e : left ≡ line ∷ rest) (few : more ≤ length line + 1) where
+  pub counted_fits : CountedTo eq text n left → n + more + room_of rest ≤ length text + 1
+  counted_fits c = omega (arith, c.fits, ap room_of e, sum_by-cons (λ (line : List ℕ). length line + 1) line rest)
 
   pub counted_line : more ≡ templates_in eq (listed (rule_on (read_rule line))) → CountedTo eq text n left → CountedTo eq text (n + more) rest
   unfolding templates_of

@@ -2,13 +2,14 @@
 // client, and how many rows a store uses.
 #![tactic(auto)]
 
-ghost use Rattle.std.specs.Prelude.{◌≡◌, ◌≤◌, true, false, length};
+ghost use Rattle.std.specs.Prelude.{◌≡◌, ◌+◌, ◌≤◌, true, false, length};
 ghost use Rattle.json_text.specs.Lines.{line_at};
 ghost use Rattle.store.specs.View.{view};
 ghost use Rattle.hosting.specs.Hosting as spec;
 ghost use Rattle.hosting.specs.Walk as walk;
 
-use events::templates::{first_topic, next_topic};
+use events::templates::first_topic;
+use json_text::access::Elements;
 use json_text::splitting::Lines;
 use rule::Topic;
 use rule::topic_list::topic_at;
@@ -60,20 +61,18 @@ fn counted(topic: Option<Topic>) -> Templates
 fn line_templates(line: &[u8]) -> Templates
     requires { line_at line.now 0 ≡ line.now }
     ensures value { result ≡ spec.line_templates line.now }
-    ensures in_bounds { (result.filters ≤ length line.now) × (result.eqs ≤ length line.now) }
+    ensures in_bounds { (result.filters ≤ length line.now + 1) × (result.eqs ≤ length line.now + 1) }
 {
     let mut filters = 0;
     let mut eqs = 0;
-    let mut next = first_topic(line, 0);
-    // Each topic takes a byte of its line at least, so there are no more than bytes.
-    for _ in 0..line.len() {
-        let Some(p) = next else {
-            break;
-        };
+    let topics = Elements {
+        line,
+        next: first_topic(line, 0),
+    };
+    for p in topics {
         let here = counted(topic_at(line, p));
         filters += here.filters;
         eqs += here.eqs;
-        next = next_topic(line, 0, p);
     }
     Templates { filters, eqs }
 }
