@@ -350,15 +350,11 @@ both_here line e f = λ i. record { filters = e i; eqs = f i }
 
 pub rows_told : (o : Option View) {answer : Option Shape} {shape : Shape} → answer ≡ shape_of o → answer ≡ Some shape → (Some (record { filters = shape.filters; eqs = shape.eqs; notes = shape.notes })) ≡ used_in o
 unfolding shape_of used_in
-rows_told None e is = let z : ◌≡◌ {A = ℕ} 0 1 = cc in absurd (omega arith)
-rows_told (Some v) {shape = shape} e is =
-    let all : record { counts = v.counts; text = length v.text; filters = length v.filters; eqs = length v.eqs; notes = length v.notes } ≡ shape = cc in
-    sym (ap (λ (s : Shape). (Some (record { filters = s.filters; eqs = s.eqs; notes = s.notes }))) all)
+rows_told o {shape = shape} e is = grind arith
 
 pub none_told : (o : Option View) {answer : Option Shape} → answer ≡ shape_of o → answer ≡ None → None ≡ used_in o
 unfolding shape_of used_in
-none_told None e is = refl
-none_told (Some v) e is = let z : ◌≡◌ {A = ℕ} 0 1 = cc in absurd (omega arith)
+none_told o e is = grind arith
 
 -- no table has over 4,096 rows
 pub used_small : (s : List ℕ) {f e n : ℕ} → used_in (view s) ≡ (Some (record { filters = f; eqs = e; notes = n })) → (f ≤ 4096) × (e ≤ 4096) × (n ≤ 4096)

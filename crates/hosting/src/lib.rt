@@ -93,6 +93,7 @@ pub fn count_templates(rules: &[u8]) -> Templates
 }
 
 // How many rows of each table a store uses, if it is as laid out.
+#[tactic(auto, using(crate::proofs::HostingLaws::rows_told, crate::proofs::HostingLaws::none_told))]
 pub fn used_rows(store: &[u8]) -> Option<Used>
     ensures { result ≡ spec.used_in (view store.now) }
 {
