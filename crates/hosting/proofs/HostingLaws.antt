@@ -55,11 +55,7 @@ special_all (b ∷ name) = ap (λ (rest : Bool). not (is_special b) && rest) (sp
 pub starts_dollar : (name : List ℕ) → starts_with eqb name (ascii "$") ≡ metadata name
 unfolding metadata
 starts_dollar [] = refl
-starts_dollar (b ∷ name) = at (eqb 36 b) refl
-  where
-    at : (e : Bool) → eqb 36 b ≡ e → (e && true) ≡ eqb b 36
-    at true q = sym (eq-eqb b 36 (sym (eqb-true 36 b q)))
-    at false q = sym (ne_eqb b 36 (λ is. true≢false (sym (eq-eqb 36 b (sym is)) ∙ q)))
+starts_dollar (b ∷ name) = grind arith
 
 -- ---- what passes a test
 
@@ -177,8 +173,7 @@ kind_append eq (f ∷ fs) gs = at (beq f.eq eq) (kind_append eq fs gs)
   where
     at : (b : Bool) → length (of_kind eq (fs ++ gs)) ≡ length (of_kind eq fs) + length (of_kind eq gs)
         → length (cond b (f ∷ of_kind eq (fs ++ gs)) (of_kind eq (fs ++ gs))) ≡ length (cond b (f ∷ of_kind eq fs) (of_kind eq fs)) + length (of_kind eq gs)
-    at true h = omega arith
-    at false h = h
+    at b h = grind arith
 
 pub topics_once : (eq : Bool) (n : ℕ) (id : List ℕ) (name : Option (List ℕ)) (topics : List (TopicOf (List ℕ)))
     → length (of_kind eq (filled_topics n id name topics)) ≡ templates_in eq topics
@@ -189,9 +184,7 @@ topics_once eq n id name (t ∷ topics) = at (is_template t.text) (beq t.eq eq) 
     at : (template kind : Bool) → beq t.eq eq ≡ kind → length (of_kind eq (filled_topics n id name topics)) ≡ templates_in eq topics
         → length (of_kind eq (cond template (record { rule = n; eq = t.eq; text = fill t.text id name } ∷ filled_topics n id name topics) (filled_topics n id name topics)))
         ≡ cond (template && kind) (suc (templates_in eq topics)) (templates_in eq topics)
-    at true true q h = rw (q, of_kind) (ap suc h)
-    at true false q h = rw (q, of_kind) h
-    at false kind q h = h
+    at template kind q h = grind arith
 
 rules_once : (eq : Bool) (n : ℕ) (id : List ℕ) (name : Option (List ℕ)) (rules : List (Option Meaning))
     → length (of_kind eq (filled_rules n id name rules)) ≡ templates_of eq rules
@@ -214,13 +207,7 @@ count_here eq n id name line p e = by (bind (value_of line p) topic_of) ∙ ap (
     tests : (t : spec.Topic) (long template is eq : Bool)
         → length (of_kind eq (filled_template n id name (cond (not long && template) (Some (record { eq = is; text = t.text.text })) None)))
         ≡ count_of eq (cond long None (cond is (cond template (Some (EqTemplate t.text.at)) (Some (Eq t.text.at))) (cond template (Some (Template t.text.at)) (Some (Filter t.text.at)))))
-    tests t true template is eq = refl
-    tests t false true true true = refl
-    tests t false true true false = refl
-    tests t false true false true = refl
-    tests t false true false false = refl
-    tests t false false true eq = refl
-    tests t false false false eq = refl
+    tests t long template is eq = grind arith
 
     by : (o : Option spec.Topic) → length (of_kind eq (filled_template n id name (bind o (λ t. if_template (topic_means t))))) ≡ count_of eq (topic_answer o)
     by None = refl
@@ -287,8 +274,7 @@ first_again [] = refl
 first_again (b ∷ text) = at (eqb b lf) refl (first_again text)
   where
     at : (e : Bool) → eqb b lf ≡ e → first_line (first_line text) ≡ first_line text → first_line (cond e [] (b ∷ first_line text)) ≡ cond e [] (b ∷ first_line text)
-    at true q h = refl
-    at false q h = rw q (ap (λ (rest : List ℕ). b ∷ rest) h)
+    at e q h = grind arith
 
 pub line_whole : (text : List ℕ) {line : List ℕ} {rest : List (List ℕ)} → lines text ≡ line ∷ rest → line_at line 0 ≡ line
 unfolding lines line_at
@@ -380,8 +366,7 @@ added {Row} same_row (r ∷ new) rows = at (some_row (same_row r) rows) (added s
   where
     at : (b : Bool) → length (add_all same_row new (add same_row r rows)) ≤ length (cond b rows (rows ++ (r ∷ []))) + length new
         → length (add_all same_row new (add same_row r rows)) ≤ length rows + suc (length new)
-    at true h = omega arith
-    at false h = omega (arith, length-append rows (r ∷ []))
+    at b h = grind (arith, length-append)
 
 pub enough : Enough
 unfolding effect filter_change new_eqs note_change change filter_rows eq_rows note_rows filled_filters filled_eqs
@@ -412,9 +397,7 @@ not_both [] = refl
 not_both (b ∷ level) = at (eqb b plus) (eqb b hash) refl refl
   where
     at : (single multi : Bool) → eqb b plus ≡ single → eqb b hash ≡ multi → (((single && same level []) || (multi && same level [])) && eqb b 36) ≡ false
-    at true multi q r = let is = eqb-true b plus q in ap (λ (c : ℕ). (((true && same level []) || (multi && same level [])) && eqb c 36)) is ∙ and-false ((true && same level []) || (multi && same level []))
-    at false true q r = let is = eqb-true b hash r in ap (λ (c : ℕ). (((false && same level []) || (true && same level [])) && eqb c 36)) is ∙ and-false ((false && same level []) || (true && same level []))
-    at false false q r = refl
+    at single multi q r = grind arith
 
 takes_itself : (ls : List Level) → takes ls ls ≡ true
 unfolding takes ends takes_level
