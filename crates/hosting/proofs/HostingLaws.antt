@@ -8,7 +8,7 @@ use Rattle.std.specs.Prelude.{Option, None, Some, sum_by}
 use Rattle.std.specs.List.{list_all, starts_with}
 use Rattle.text.specs.Maybe.{bind}
 use Rattle.std.proofs.lemmas.List.Sums.{sum_by-cons}
-use borrow.Author.Tests.{eq-eqb, ne_eqb, eqb-true}
+use borrow.Author.Tests.{eq-eqb}
 use lib.Dec.{eqb}
 use lib.ListN.{length, take, length-append, length-map}
 use Rattle.text.specs.Ascii.{ascii}
@@ -41,7 +41,6 @@ use Rattle.store.specs.Check.{shape_of}
 use Rattle.store.specs.declared.Shape.{Shape}
 use Rattle.hosting.specs.Hosting.{is_special, no_special, templates_in, templates_of, line_templates, templates, used_in}
 use Rattle.hosting.specs.Claims.{PlainFills, FilledOnce, Enough, TakesBack, depart, enter, leave, Entered, EntersAlike, LeavesAlike}
-use Rattle.hosting.specs.declared.Used.{Used}
 
 -- ---- plain names
 
@@ -67,13 +66,12 @@ module _ {Row : Type 0} (p : Row → Bool) where
     where
       at : (b : Bool) → keep p (rows ++ more) ≡ keep p rows ++ keep p more
           → cond b (r ∷ keep p (rows ++ more)) (keep p (rows ++ more)) ≡ cond b (r ∷ keep p rows) (keep p rows) ++ keep p more
-      at true e = ap (λ (rs : List Row). r ∷ rs) e
-      at false e = e
+      at b e = grind arith
 
   pub keep_none : (rows : List Row) → some_row p rows ≡ false → keep p rows ≡ []
   unfolding some_row keep
   keep_none [] e = refl
-  keep_none (r ∷ rows) e = let h = or_split (p r) _ e in rw h.0 (keep_none rows h.1)
+  keep_none (r ∷ rows) e = grind (arith, keep_none rows)
 
   pub keep_all : (rows : List Row) → some_row (λ r. not (p r)) rows ≡ false → keep p rows ≡ rows
   unfolding some_row keep
@@ -81,8 +79,7 @@ module _ {Row : Type 0} (p : Row → Bool) where
   keep_all (r ∷ rows) e = let h = or_split (not (p r)) _ e in at (p r) refl h.0 (keep_all rows h.1)
     where
       at : (b : Bool) → p r ≡ b → not (p r) ≡ false → keep p rows ≡ rows → cond b (r ∷ keep p rows) (keep p rows) ≡ r ∷ rows
-      at true q h below = ap (λ (rs : List Row). r ∷ rs) below
-      at false q h below = absurd (true≢false (ap not (sym q) ∙ h))
+      at b q h below = grind arith
 
   -- a row that doesn't pass, at the end
   keep_last : (rows : List Row) (r : Row) → p r ≡ false → keep p (rows ++ (r ∷ [])) ≡ keep p rows
@@ -109,8 +106,7 @@ adds_none same_row [] rows e = refl
 adds_none same_row (r ∷ new) rows e = let h = or_split (not (some_row (same_row r) rows)) _ e in at (some_row (same_row r) rows) h.0 (adds_none same_row new rows h.1)
   where
     at : (b : Bool) → not b ≡ false → add_all same_row new rows ≡ rows → add_all same_row new (cond b rows (rows ++ (r ∷ []))) ≡ rows
-    at true q below = below
-    at false q below = absurd (true≢false q)
+    at b q below = grind arith
 
 -- ---- filling
 
@@ -348,15 +344,11 @@ unfolding used_in
 used_small s {f} {e} {n} is = by (view s) refl is
   where
     by : (o : Option View) → view s ≡ o → used_in o ≡ (Some (record { filters = f; eqs = e; notes = n })) → (f ≤ 4096) × (e ≤ 4096) × (n ≤ 4096)
-    by None q r = let z : ◌≡◌ {A = ℕ} 0 1 = cc in absurd (omega arith)
+    by None q r = cc
     by (Some v) q r =
         let w = well_formed_parts v (view-well_formed s v q) in
         let c = fit_range v.counts (openable_parts v.counts v.text w.head).counts in
-        let all : ◌≡◌ {A = Used} (record { filters = length v.filters; eqs = length v.eqs; notes = length v.notes }) (record { filters = f; eqs = e; notes = n }) = cc in
-        let f-is = ap (λ (u : Used). u.filters) all in
-        let e-is = ap (λ (u : Used). u.eqs) all in
-        let n-is = ap (λ (u : Used). u.notes) all in
-        (omega (arith, w.filters.fits, c.filters_most), omega (arith, w.eqs.fits, c.eqs_most), omega (arith, w.notes.fits, c.notes_most))
+        grind (arith, w.filters.fits, c.filters_most, w.eqs.fits, c.eqs_most, w.notes.fits, c.notes_most)
 
 -- adding brings no more rows than there are new ones
 added : {Row : Type 0} (same_row : Row → Row → Bool) (new rows : List Row) → length (add_all same_row new rows) ≤ length rows + length new
