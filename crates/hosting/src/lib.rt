@@ -39,6 +39,7 @@ fn is_special(b: u8) -> bool
 }
 
 // Is it a text that adds no level and no wildcard to a template, and doesn't begin with `$`?
+#[tactic(auto, using(crate::proofs::HostingLaws::starts_dollar), unfolding(crate::specs::Hosting::plain_name))]
 pub fn plain_name(name: &[u8]) -> bool
     ensures { result ≡ spec.plain_name name.now }
 {
