@@ -1,6 +1,6 @@
 -- The numbers that the calls on a store answer are small: a rule is at most 256, a line at most 257, a code 4, a QoS 2. Assumes nothing.
 use Prim.Native.Nat.{ℕ, suc, ◌+◌, ◌≤◌, ◌<◌}
-use mathlib.Core.Path.{◌≡◌, refl, ap}
+use mathlib.Core.Path.{◌≡◌, refl}
 use mathlib.Core.Bool.{Bool, true, false, ◌||◌, cond}
 use mathlib.Core.List.{List, [], ◌∷◌}
 use Rattle.std.specs.Prelude.{Option, None, Some, Result, Ok, Err}
@@ -76,8 +76,7 @@ module _ (some_filter : (FilterRow → Bool) → Bool) (some_eq : (EqRow → Boo
     where
       by : (b : Bool) → (first_from some_filter some_eq c w (suc n) rules ≡ Some f → f.0 < suc n + length rules)
           → cond b (Some (n, r)) (first_from some_filter some_eq c w (suc n) rules) ≡ Some f → f.0 < n + suc (length rules)
-      by true h k = let is : (n, r) ≡ f = cc in omega (arith, ap (λ (p : ℕ × Meaning). p.0) is)
-      by false h k = omega (arith, h k)
+      by b h k = grind arith
 
 lines_few : (text : List ℕ) → text_fault text ≡ None → length (lines text) ≤ lines_limit
 unfolding text_fault
@@ -182,9 +181,7 @@ fault-line n (line ∷ rest) f e = by (read_rule line) (fault-line (suc n) rest 
   where
     by : (o : Result Rule Refusal) → (fault_in (suc n) rest ≡ Some f → f.line < suc n + length rest)
         → (elim o as (λ _. Option Fault) [ Err cause ↦ Some (record { cause = cause; line = n }) | Ok r ↦ fault_in (suc n) rest ]) ≡ Some f → f.line < n + suc (length rest)
-    by (Err cause) h k =
-        let is : record { cause = cause; line = n } ≡ f = cc in omega (arith, ap (λ (g : Fault). g.line) is)
-    by (Ok r) h k = omega (arith, h k)
+    by o h k = grind arith
 
 text_line : (text : List ℕ) (f : Fault) → text_fault text ≡ Some f → f.line ≤ 257
 unfolding text_fault

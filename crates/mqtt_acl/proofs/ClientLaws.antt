@@ -57,8 +57,7 @@ hit_below q n (r ∷ rules) h e = by (hits q r) (hit_below q (suc n) rules h) e
   where
     by : (b : Bool) → (first_hit q (suc n) rules ≡ Some h → h.0 < suc n + length rules)
         → cond b (Some (n, r)) (first_hit q (suc n) rules) ≡ Some h → h.0 < n + suc (length rules)
-    by true k i = let is : (n, r) ≡ h = cc in omega (arith, ap (λ (p : ℕ × ClientRule). p.0) is)
-    by false k i = omega (arith, k i)
+    by b k i = grind arith
 
 allowance_answered : (q : Question) (n : ℕ) → qos_asked q ≤ 2 → n ≤ 256 → Answered (decides (allowance q n))
 unfolding allowance qos_asked
