@@ -58,7 +58,7 @@ fn counted(topic: Option<Topic>) -> Templates
     }
 }
 
-// The templates of a rule by its line.
+// The templates of a rule by its line, which has no LF.
 fn line_templates(line: &[u8]) -> Templates
     requires { line_at line.now 0 ≡ line.now }
     ensures value { result ≡ spec.line_templates line.now }
