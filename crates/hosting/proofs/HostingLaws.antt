@@ -1,23 +1,25 @@
 -- Laws of what a host asks, and the claims of specs/Claims.antt. Assumes nothing.
-use Prim.Native.Nat.{ℕ, zero, suc, ◌+◌, ◌-◌, ◌≤◌, ◌<◌}
+use Prim.Native.Nat.{ℕ, zero, suc, ◌+◌, ◌-◌, ◌≤◌}
 use native.Mathlib.Omega.{arith}
 use mathlib.Core.Path.{◌≡◌, refl, sym, ap, ◌∙◌}
 use mathlib.Core.Bool.{Bool, true, false, ◌&&◌, ◌||◌, not, cond, beq, true≢false, and-false, or-true}
 use mathlib.Core.List.{List, [], ◌∷◌, ◌++◌, map, Memᴰ}
-use Rattle.std.specs.Prelude.{Option, None, Some}
+use Rattle.std.specs.Prelude.{Option, None, Some, sum_by}
 use Rattle.std.specs.List.{list_all, starts_with}
 use Rattle.text.specs.Maybe.{bind}
-use borrow.Author.Tests.{eq-eqb, ne_eqb, eqb-true, ltb-false}
-use lib.Dec.{eqb, ltb}
-use lib.ListN.{length, take, drop, length-append, length-map}
+use Rattle.std.proofs.lemmas.List.Sums.{sum_by-cons}
+use borrow.Author.Tests.{eq-eqb}
+use lib.Dec.{eqb}
+use lib.ListN.{length, take, length-append, length-map}
 use Rattle.text.specs.Ascii.{ascii}
 use Rattle.text.specs.Text.{same, occurs, replace_from, replace}
 use Rattle.text.proofs.Laws.{and_split, or_split, isnt, same_itself, begins-take}
 use Rattle.topic.specs.Topic.{Level, plus, hash, levels, is_only, is_plus, is_hash, metadata, ends, takes_level, takes, dollar_rule, levels_match, levels_if, checked_levels, tree_match, valid_filter}
 use Rattle.table.specs.Table.{some_row, keep, add, add_all, change}
 use Rattle.table.proofs.TableLaws.{some_keep, some_map, some_on, present, none as none_rows, none_at, none_of, member, length-keep, some_add_all}
-use Rattle.json_text.specs.Lines.{lines, line_at, next_line}
-use Rattle.json_text.proofs.LineLaws.{lines_here, lines_past, line_within, next_by}
+use Rattle.json_text.specs.Lines.{lines, line_at, lf, first_line, with_byte, extend_line}
+use Rattle.json_text.specs.Access.{next_item, places, places_from}
+use Rattle.json_text.proofs.LineLaws.{lines_here}
 use Rattle.rule.specs.Limits.{text_limit}
 use Rattle.rule.specs.Rule as spec
 use Rattle.rule.specs.Rule.{Meaning, TopicOf, is_template, topic_means, topic_of}
@@ -33,13 +35,12 @@ use Rattle.store.proofs.ViewLaws.{view-well_formed}
 use Rattle.store.proofs.OpenLaws.{fit_range}
 use Rattle.events.specs.Event.{filled_filters, filled_eqs, filter_rows, eq_rows, note_rows, of_session, clears, cleared, filter_change, new_eqs, note_change, effect}
 use Rattle.events.specs.Templates.{first_topic, next_topic, if_template, template_at, filled_template, filled_from}
-use Rattle.events.proofs.TemplateWalk.{walk_line, walk_topic, walk_end, walk_out}
+use Rattle.events.proofs.TemplateWalk.{walk_line}
 use Rattle.hosting.specs.Walk.{count_of}
 use Rattle.store.specs.Check.{shape_of}
 use Rattle.store.specs.declared.Shape.{Shape}
 use Rattle.hosting.specs.Hosting.{is_special, no_special, templates_in, templates_of, line_templates, templates, used_in}
 use Rattle.hosting.specs.Claims.{PlainFills, FilledOnce, Enough, TakesBack, depart, enter, leave, Entered, EntersAlike, LeavesAlike}
-use Rattle.hosting.specs.declared.Used.{Used}
 
 -- ---- plain names
 
@@ -53,11 +54,7 @@ special_all (b ∷ name) = ap (λ (rest : Bool). not (is_special b) && rest) (sp
 pub starts_dollar : (name : List ℕ) → starts_with eqb name (ascii "$") ≡ metadata name
 unfolding metadata
 starts_dollar [] = refl
-starts_dollar (b ∷ name) = at (eqb 36 b) refl
-  where
-    at : (e : Bool) → eqb 36 b ≡ e → (e && true) ≡ eqb b 36
-    at true q = sym (eq-eqb b 36 (sym (eqb-true 36 b q)))
-    at false q = sym (ne_eqb b 36 (λ is. true≢false (sym (eq-eqb 36 b (sym is)) ∙ q)))
+starts_dollar (b ∷ name) = grind arith
 
 -- ---- what passes a test
 
@@ -69,13 +66,12 @@ module _ {Row : Type 0} (p : Row → Bool) where
     where
       at : (b : Bool) → keep p (rows ++ more) ≡ keep p rows ++ keep p more
           → cond b (r ∷ keep p (rows ++ more)) (keep p (rows ++ more)) ≡ cond b (r ∷ keep p rows) (keep p rows) ++ keep p more
-      at true e = ap (λ (rs : List Row). r ∷ rs) e
-      at false e = e
+      at b e = grind arith
 
   pub keep_none : (rows : List Row) → some_row p rows ≡ false → keep p rows ≡ []
   unfolding some_row keep
   keep_none [] e = refl
-  keep_none (r ∷ rows) e = let h = or_split (p r) _ e in rw h.0 (keep_none rows h.1)
+  keep_none (r ∷ rows) e = grind (arith, keep_none rows)
 
   pub keep_all : (rows : List Row) → some_row (λ r. not (p r)) rows ≡ false → keep p rows ≡ rows
   unfolding some_row keep
@@ -83,8 +79,7 @@ module _ {Row : Type 0} (p : Row → Bool) where
   keep_all (r ∷ rows) e = let h = or_split (not (p r)) _ e in at (p r) refl h.0 (keep_all rows h.1)
     where
       at : (b : Bool) → p r ≡ b → not (p r) ≡ false → keep p rows ≡ rows → cond b (r ∷ keep p rows) (keep p rows) ≡ r ∷ rows
-      at true q h below = ap (λ (rs : List Row). r ∷ rs) below
-      at false q h below = absurd (true≢false (ap not (sym q) ∙ h))
+      at b q h below = grind arith
 
   -- a row that doesn't pass, at the end
   keep_last : (rows : List Row) (r : Row) → p r ≡ false → keep p (rows ++ (r ∷ [])) ≡ keep p rows
@@ -111,8 +106,7 @@ adds_none same_row [] rows e = refl
 adds_none same_row (r ∷ new) rows e = let h = or_split (not (some_row (same_row r) rows)) _ e in at (some_row (same_row r) rows) h.0 (adds_none same_row new rows h.1)
   where
     at : (b : Bool) → not b ≡ false → add_all same_row new rows ≡ rows → add_all same_row new (cond b rows (rows ++ (r ∷ []))) ≡ rows
-    at true q below = below
-    at false q below = absurd (true≢false q)
+    at b q below = grind arith
 
 -- ---- filling
 
@@ -175,8 +169,7 @@ kind_append eq (f ∷ fs) gs = at (beq f.eq eq) (kind_append eq fs gs)
   where
     at : (b : Bool) → length (of_kind eq (fs ++ gs)) ≡ length (of_kind eq fs) + length (of_kind eq gs)
         → length (cond b (f ∷ of_kind eq (fs ++ gs)) (of_kind eq (fs ++ gs))) ≡ length (cond b (f ∷ of_kind eq fs) (of_kind eq fs)) + length (of_kind eq gs)
-    at true h = omega arith
-    at false h = h
+    at b h = grind arith
 
 pub topics_once : (eq : Bool) (n : ℕ) (id : List ℕ) (name : Option (List ℕ)) (topics : List (TopicOf (List ℕ)))
     → length (of_kind eq (filled_topics n id name topics)) ≡ templates_in eq topics
@@ -187,9 +180,7 @@ topics_once eq n id name (t ∷ topics) = at (is_template t.text) (beq t.eq eq) 
     at : (template kind : Bool) → beq t.eq eq ≡ kind → length (of_kind eq (filled_topics n id name topics)) ≡ templates_in eq topics
         → length (of_kind eq (cond template (record { rule = n; eq = t.eq; text = fill t.text id name } ∷ filled_topics n id name topics) (filled_topics n id name topics)))
         ≡ cond (template && kind) (suc (templates_in eq topics)) (templates_in eq topics)
-    at true true q h = rw (q, of_kind) (ap suc h)
-    at true false q h = rw (q, of_kind) h
-    at false kind q h = h
+    at template kind q h = grind arith
 
 rules_once : (eq : Bool) (n : ℕ) (id : List ℕ) (name : Option (List ℕ)) (rules : List (Option Meaning))
     → length (of_kind eq (filled_rules n id name rules)) ≡ templates_of eq rules
@@ -212,79 +203,120 @@ count_here eq n id name line p e = by (bind (value_of line p) topic_of) ∙ ap (
     tests : (t : spec.Topic) (long template is eq : Bool)
         → length (of_kind eq (filled_template n id name (cond (not long && template) (Some (record { eq = is; text = t.text.text })) None)))
         ≡ count_of eq (cond long None (cond is (cond template (Some (EqTemplate t.text.at)) (Some (Eq t.text.at))) (cond template (Some (Template t.text.at)) (Some (Filter t.text.at)))))
-    tests t true template is eq = refl
-    tests t false true true true = refl
-    tests t false true true false = refl
-    tests t false true false true = refl
-    tests t false true false false = refl
-    tests t false false true eq = refl
-    tests t false false false eq = refl
+    tests t long template is eq = grind arith
 
     by : (o : Option spec.Topic) → length (of_kind eq (filled_template n id name (bind o (λ t. if_template (topic_means t))))) ≡ count_of eq (topic_answer o)
     by None = refl
     by (Some t) = tests t (over text_limit t.text.text) (is_template t.text.text) t.eq eq
 
--- the loop over a line's topics: what is counted and what is left is all, of this kind
-abbrev pub Left : Bool → List ℕ → ℕ → ℕ → Option ℕ → Type 0
-Left eq line n turns next = n + length (of_kind eq (filled_from turns 0 [] None line next)) ≡ templates_in eq (listed (rule_on (read_rule line)))
-
-pub left_start : (eq : Bool) (line : List ℕ) {first : Option ℕ} → first ≡ first_topic line → Left eq line 0 (length line) first
-left_start eq line e =
-    let all =
-    ap (λ (p : Option ℕ). length (of_kind eq (filled_from (length line) 0 [] None line p))) e
-    ∙ (ap (λ (fs : List Filled). length (of_kind eq fs)) (walk_line 0 [] None line (length line) (omega arith)) ∙ topics_once eq 0 [] None (listed (rule_on (read_rule line)))) in
-    omega arith
-
-pub left_step : (eq : Bool) (line : List ℕ) (n turns : ℕ) {place next : Option ℕ} {p : ℕ} {answer : Option Topic} → 0 < turns → place ≡ Some p
-    → answer ≡ topic_answer (bind (value_of line p) topic_of) → next ≡ next_topic line p → Left eq line n turns place → Left eq line (n + count_of eq answer) (turns - 1) next
-left_step eq line n turns {next = next} {p = p} {answer} h at is onward left =
-    let step = ap (λ (fs : List Filled). length (of_kind eq fs)) (walk_topic 0 [] None line turns h at) ∙ kind_append eq (filled_template 0 [] None (template_at line p)) _ in
-    let here = count_here eq 0 [] None line p is in
-    let rest = ap (λ (q : Option ℕ). length (of_kind eq (filled_from (turns - 1) 0 [] None line q))) onward in
-    omega arith
-
-pub left_none : (eq : Bool) (line : List ℕ) (n turns : ℕ) {place : Option ℕ} → place ≡ None → Left eq line n turns place → n ≡ templates_in eq (listed (rule_on (read_rule line)))
-left_none eq line n turns e left =
-    let end = ap (λ (fs : List Filled). length (of_kind eq fs)) (walk_end 0 [] None line turns e) in
-    let nothing : length (of_kind eq []) ≡ 0 = unfold of_kind in refl in
-    omega arith
-
-pub left_out : (eq : Bool) (line : List ℕ) (n turns : ℕ) (place : Option ℕ) → turns ≤ 0 → Left eq line n turns place → n ≡ templates_in eq (listed (rule_on (read_rule line)))
-left_out eq line n turns place h left =
-    let end = ap (λ (fs : List Filled). length (of_kind eq fs)) (walk_out 0 [] None line turns place h) in
-    let nothing : length (of_kind eq []) ≡ 0 = unfold of_kind in refl in
-    omega arith
-
 pub count_small : (eq : Bool) (t : Option Topic) → count_of eq t ≤ 1
 unfolding count_of
-count_small eq (Some (Filter p)) = omega arith
-count_small true (Some (Template p)) = omega arith
-count_small false (Some (Template p)) = omega arith
-count_small eq (Some (Eq p)) = omega arith
-count_small true (Some (EqTemplate p)) = omega arith
-count_small false (Some (EqTemplate p)) = omega arith
-count_small eq None = omega arith
+count_small eq t = grind arith
 
--- the loop over the lines
-abbrev pub OnLines : Bool → List ℕ → ℕ → ℕ → Type 0
-OnLines eq text n at = n + templates_of eq (rules_of (drop at text)) ≡ templates_of eq (rules_of text)
+-- ---- the loop over a line's topics
 
-pub on_first : (eq : Bool) (text : List ℕ) → OnLines eq text 0 0
-on_first eq text = omega arith
+-- 1 for a template of this kind at a place, else 0
+unfoldable pub count_at : Bool → List ℕ → ℕ → ℕ
+count_at eq line p = length (of_kind eq (filled_template 0 [] None (template_at line p)))
 
-pub onward_step : (eq : Bool) (text : List ℕ) (n at more next : ℕ) → at < length text → more ≡ templates_in eq (listed (rule_on (read_rule (line_at text at))))
-    → next ≡ next_line text at → OnLines eq text n at → OnLines eq text (n + more) next
-unfolding templates_of rules_of
-onward_step eq text n at more next h is goes left =
-    let step = ap (λ (ls : List (List ℕ)). templates_of eq (map (λ line. rule_on (read_rule line)) ls)) (lines_here text at h) in
-    let rest = ap (λ (k : ℕ). templates_of eq (map (λ line. rule_on (read_rule line)) (lines (drop k text)))) goes in
-    omega arith
+module _ (eq : Bool) (line : List ℕ) where
+  places_counted : (most : ℕ) (next : Option ℕ) → length (of_kind eq (filled_from most 0 [] None line next)) ≡ sum_by (count_at eq line) (places most line next)
+  unfolding filled_from places of_kind count_at next_topic
+  places_counted zero next = refl
+  places_counted (suc most) None = refl
+  places_counted (suc most) (Some p) =
+      omega (arith, kind_append eq (filled_template 0 [] None (template_at line p)) (filled_from most 0 [] None line (next_item line p)), places_counted most (next_item line p), sum_by-cons (count_at eq line) p (places most line (next_item line p)))
 
-pub onward_end : (eq : Bool) (text : List ℕ) (n at : ℕ) → length text ≤ at → OnLines eq text n at → n ≡ templates_of eq (rules_of text)
-unfolding templates_of rules_of
-onward_end eq text n at h left =
-    let none_left = ap (λ (ls : List (List ℕ)). templates_of eq (map (λ line. rule_on (read_rule line)) ls)) (lines_past text at h) in
-    omega arith
+  places_most : (most : ℕ) (next : Option ℕ) → length (places most line next) ≤ most
+  unfolding places
+  places_most zero next = omega arith
+  places_most (suc most) None = omega arith
+  places_most (suc most) (Some p) = omega (arith, places_most most (next_item line p))
+
+  -- what is counted of a kind, with the topics left, is all; and no more are counted than topics passed
+  pub record CountedIn (n : ℕ) (left : List ℕ) : Type 0 where
+    pub all : n + sum_by (count_at eq line) left ≡ templates_in eq (listed (rule_on (read_rule line)))
+    pub fits : n + length left ≤ length line + 1
+
+  pub counted_first : {first : Option ℕ} → first ≡ first_topic line → CountedIn 0 (places_from line first)
+  unfolding places_from
+  counted_first {first} e =
+      let most = suc (length line) in
+      let walked = ap (λ (fs : List Filled). length (of_kind eq fs)) (ap (filled_from most 0 [] None line) e ∙ walk_line 0 [] None line most (omega arith)) in
+      record {
+        all = omega (arith, places_counted most first, walked, topics_once eq 0 [] None (listed (rule_on (read_rule line))));
+        fits = omega (arith, places_most most first);
+      }
+
+  pub counted_topic : (n p : ℕ) {left rest : List ℕ} {answer : Option Topic} → left ≡ p ∷ rest → answer ≡ topic_answer (bind (value_of line p) topic_of)
+      → CountedIn n left → CountedIn (n + count_of eq answer) rest
+  unfolding count_at
+  counted_topic n p {rest = rest} {answer} e is c =
+      let here = count_here eq 0 [] None line p is in
+      record {
+        all = omega (arith, c.all, ap (sum_by (count_at eq line)) e, sum_by-cons (count_at eq line) p rest, here);
+        fits = omega (arith, c.fits, ap length e, count_small eq answer);
+      }
+
+  pub counted_topics : (n : ℕ) {left : List ℕ} → left ≡ [] → CountedIn n left → n ≡ templates_in eq (listed (rule_on (read_rule line)))
+  counted_topics n e c = omega (arith, c.all, ap (sum_by (count_at eq line)) e)
+
+-- ---- the loop over the lines
+
+-- a line has no LF
+first_again : (text : List ℕ) → first_line (first_line text) ≡ first_line text
+unfolding first_line
+first_again [] = refl
+first_again (b ∷ text) = at (eqb b lf) refl (first_again text)
+  where
+    at : (e : Bool) → eqb b lf ≡ e → first_line (first_line text) ≡ first_line text → first_line (cond e [] (b ∷ first_line text)) ≡ cond e [] (b ∷ first_line text)
+    at e q h = grind arith
+
+pub line_whole : (text : List ℕ) {line : List ℕ} {rest : List (List ℕ)} → lines text ≡ line ∷ rest → line_at line 0 ≡ line
+unfolding lines line_at
+line_whole [] e = cc
+line_whole (b ∷ text) {line = line} e =
+    let here = lines_here (b ∷ text) 0 (omega arith) in
+    let is : first_line (b ∷ text) ≡ line = cc in
+    rw (← is) (first_again (b ∷ text))
+
+-- a line with its LF takes no more bytes than the text, but for an LF that the last may lack
+abbrev pub room_of : List (List ℕ) → ℕ
+room_of = sum_by (λ line. length line + 1)
+
+room_most : (text : List ℕ) → room_of (lines text) ≤ length text + 1
+unfolding lines with_byte extend_line
+room_most [] = omega arith
+room_most (b ∷ text) = by (eqb b lf) (lines text) (room_most text)
+  where
+    by : (e : Bool) (rest : List (List ℕ)) → room_of rest ≤ length text + 1 → room_of (cond e ([] ∷ rest) (extend_line b rest)) ≤ suc (length text) + 1
+    by true rest h = omega (arith, sum_by-cons (λ (line : List ℕ). length line + 1) [] rest)
+    by false [] h = omega arith
+    by false (line ∷ rest) h =
+        omega (arith, sum_by-cons (λ (line : List ℕ). length line + 1) line rest, sum_by-cons (λ (line : List ℕ). length line + 1) (b ∷ line) rest)
+
+-- what is counted of a kind, with what the lines left have, is all; and no more are counted than bytes passed
+pub record CountedTo (eq : Bool) (text : List ℕ) (n : ℕ) (left : List (List ℕ)) : Type 0 where
+  pub all : n + templates_of eq (map (λ line. rule_on (read_rule line)) left) ≡ templates_of eq (rules_of text)
+  pub fits : n + room_of left ≤ length text + 1
+
+pub counted_none : (eq : Bool) (text : List ℕ) → CountedTo eq text 0 (lines text)
+unfolding rules_of
+counted_none eq text = record { all = omega arith; fits = omega (arith, room_most text) }
+
+module _ (eq : Bool) (text : List ℕ) (n more : ℕ) (line : List ℕ) {left rest : List (List ℕ)} (e : left ≡ line ∷ rest) (few : more ≤ length line + 1) where
+  pub counted_fits : CountedTo eq text n left → n + more + room_of rest ≤ length text + 1
+  counted_fits c = omega (arith, c.fits, ap room_of e, sum_by-cons (λ (line : List ℕ). length line + 1) line rest)
+
+  pub counted_line : more ≡ templates_in eq (listed (rule_on (read_rule line))) → CountedTo eq text n left → CountedTo eq text (n + more) rest
+  unfolding templates_of
+  counted_line is c =
+      let all = ap (λ (ls : List (List ℕ)). templates_of eq (map (λ line. rule_on (read_rule line)) ls)) e in
+      record { all = omega (arith, c.all); fits = counted_fits c }
+
+pub counted_all : (eq : Bool) (text : List ℕ) (n : ℕ) {left : List (List ℕ)} → left ≡ [] → CountedTo eq text n left → n ≡ templates_of eq (rules_of text)
+unfolding templates_of
+counted_all eq text n e c = let all = ap (λ (ls : List (List ℕ)). templates_of eq (map (λ line. rule_on (read_rule line)) ls)) e in omega (arith, c.all)
 
 -- both counts together
 pub both_counts : (text : List ℕ) {n m : ℕ} → n ≡ templates_of false (rules_of text) → m ≡ templates_of true (rules_of text) → record { filters = n; eqs = m } ≡ templates text
@@ -300,15 +332,11 @@ both_here line e f = λ i. record { filters = e i; eqs = f i }
 
 pub rows_told : (o : Option View) {answer : Option Shape} {shape : Shape} → answer ≡ shape_of o → answer ≡ Some shape → (Some (record { filters = shape.filters; eqs = shape.eqs; notes = shape.notes })) ≡ used_in o
 unfolding shape_of used_in
-rows_told None e is = let z : ◌≡◌ {A = ℕ} 0 1 = cc in absurd (omega arith)
-rows_told (Some v) {shape = shape} e is =
-    let all : record { counts = v.counts; text = length v.text; filters = length v.filters; eqs = length v.eqs; notes = length v.notes } ≡ shape = cc in
-    sym (ap (λ (s : Shape). (Some (record { filters = s.filters; eqs = s.eqs; notes = s.notes }))) all)
+rows_told o {shape = shape} e is = grind arith
 
 pub none_told : (o : Option View) {answer : Option Shape} → answer ≡ shape_of o → answer ≡ None → None ≡ used_in o
 unfolding shape_of used_in
-none_told None e is = refl
-none_told (Some v) e is = let z : ◌≡◌ {A = ℕ} 0 1 = cc in absurd (omega arith)
+none_told o e is = grind arith
 
 -- no table has over 4,096 rows
 pub used_small : (s : List ℕ) {f e n : ℕ} → used_in (view s) ≡ (Some (record { filters = f; eqs = e; notes = n })) → (f ≤ 4096) × (e ≤ 4096) × (n ≤ 4096)
@@ -316,23 +344,11 @@ unfolding used_in
 used_small s {f} {e} {n} is = by (view s) refl is
   where
     by : (o : Option View) → view s ≡ o → used_in o ≡ (Some (record { filters = f; eqs = e; notes = n })) → (f ≤ 4096) × (e ≤ 4096) × (n ≤ 4096)
-    by None q r = let z : ◌≡◌ {A = ℕ} 0 1 = cc in absurd (omega arith)
+    by None q r = cc
     by (Some v) q r =
         let w = well_formed_parts v (view-well_formed s v q) in
         let c = fit_range v.counts (openable_parts v.counts v.text w.head).counts in
-        let all : ◌≡◌ {A = Used} (record { filters = length v.filters; eqs = length v.eqs; notes = length v.notes }) (record { filters = f; eqs = e; notes = n }) = cc in
-        let f-is = ap (λ (u : Used). u.filters) all in
-        let e-is = ap (λ (u : Used). u.eqs) all in
-        let n-is = ap (λ (u : Used). u.notes) all in
-        (omega (arith, w.filters.fits, c.filters_most), omega (arith, w.eqs.fits, c.eqs_most), omega (arith, w.notes.fits, c.notes_most))
-
--- a line ends before the next begins
-pub line_before : (text : List ℕ) (at : ℕ) → at < length text → at + length (line_at text at) ≤ next_line text at
-line_before text at h = let end = line_within text at (omega arith) in by (ltb (at + length (line_at text at)) (length text)) refl
-  where
-    by : (b : Bool) → ltb (at + length (line_at text at)) (length text) ≡ b → at + length (line_at text at) ≤ next_line text at
-    by true q = let is = next_by text at q in omega arith
-    by false q = let is = next_by text at q in omega (arith, ltb-false (at + length (line_at text at)) (length text) q, line_within text at (omega arith))
+        grind (arith, w.filters.fits, c.filters_most, w.eqs.fits, c.eqs_most, w.notes.fits, c.notes_most)
 
 -- adding brings no more rows than there are new ones
 added : {Row : Type 0} (same_row : Row → Row → Bool) (new rows : List Row) → length (add_all same_row new rows) ≤ length rows + length new
@@ -342,8 +358,7 @@ added {Row} same_row (r ∷ new) rows = at (some_row (same_row r) rows) (added s
   where
     at : (b : Bool) → length (add_all same_row new (add same_row r rows)) ≤ length (cond b rows (rows ++ (r ∷ []))) + length new
         → length (add_all same_row new (add same_row r rows)) ≤ length rows + suc (length new)
-    at true h = omega arith
-    at false h = omega (arith, length-append rows (r ∷ []))
+    at b h = grind (arith, length-append)
 
 pub enough : Enough
 unfolding effect filter_change new_eqs note_change change filter_rows eq_rows note_rows filled_filters filled_eqs
@@ -374,9 +389,7 @@ not_both [] = refl
 not_both (b ∷ level) = at (eqb b plus) (eqb b hash) refl refl
   where
     at : (single multi : Bool) → eqb b plus ≡ single → eqb b hash ≡ multi → (((single && same level []) || (multi && same level [])) && eqb b 36) ≡ false
-    at true multi q r = let is = eqb-true b plus q in ap (λ (c : ℕ). (((true && same level []) || (multi && same level [])) && eqb c 36)) is ∙ and-false ((true && same level []) || (multi && same level []))
-    at false true q r = let is = eqb-true b hash r in ap (λ (c : ℕ). (((false && same level []) || (true && same level [])) && eqb c 36)) is ∙ and-false ((false && same level []) || (true && same level []))
-    at false false q r = refl
+    at single multi q r = grind arith
 
 takes_itself : (ls : List Level) → takes ls ls ≡ true
 unfolding takes ends takes_level

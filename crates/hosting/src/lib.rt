@@ -2,14 +2,15 @@
 // client, and how many rows a store uses.
 #![tactic(auto)]
 
-ghost use Rattle.std.specs.Prelude.{◌≡◌, ◌≤◌, true, false, length};
+ghost use Rattle.std.specs.Prelude.{◌≡◌, ◌+◌, ◌≤◌, true, false, length};
 ghost use Rattle.json_text.specs.Lines.{line_at};
 ghost use Rattle.store.specs.View.{view};
 ghost use Rattle.hosting.specs.Hosting as spec;
 ghost use Rattle.hosting.specs.Walk as walk;
 
-use events::templates::{first_topic, next_topic};
-use json_text::splitting::{line_at, next_line};
+use events::templates::first_topic;
+use json_text::access::Elements;
+use json_text::splitting::Lines;
 use rule::Topic;
 use rule::topic_list::topic_at;
 use store::check;
@@ -38,6 +39,7 @@ fn is_special(b: u8) -> bool
 }
 
 // Is it a text that adds no level and no wildcard to a template, and doesn't begin with `$`?
+#[tactic(auto, using(crate::proofs::HostingLaws::starts_dollar), unfolding(crate::specs::Hosting::plain_name))]
 pub fn plain_name(name: &[u8]) -> bool
     ensures { result ≡ spec.plain_name name.now }
 {
@@ -56,24 +58,22 @@ fn counted(topic: Option<Topic>) -> Templates
     }
 }
 
-// The templates of the rule whose line begins at `at`.
-fn line_templates(rules: &[u8], at: usize) -> Templates
-    ensures value { result ≡ spec.line_templates (line_at rules.now at) }
-    ensures filters_in_bounds { (result.filters ≤ length (line_at rules.now at)) × (result.eqs ≤ length (line_at rules.now at)) }
+// The templates of a rule by its line, which has no LF.
+fn line_templates(line: &[u8]) -> Templates
+    requires { line_at line.now 0 ≡ line.now }
+    ensures value { result ≡ spec.line_templates line.now }
+    ensures in_bounds { (result.filters ≤ length line.now + 1) × (result.eqs ≤ length line.now + 1) }
 {
-    let line = line_at(rules, at);
     let mut filters = 0;
     let mut eqs = 0;
-    let mut next = first_topic(rules, at);
-    // Each topic takes a byte of its line at least, so there are no more than bytes.
-    for _ in 0..line.len() {
-        let Some(p) = next else {
-            break;
-        };
+    let topics = Elements {
+        line,
+        next: first_topic(line, 0),
+    };
+    for p in topics {
         let here = counted(topic_at(line, p));
         filters += here.filters;
         eqs += here.eqs;
-        next = next_topic(rules, at, p);
     }
     Templates { filters, eqs }
 }
@@ -85,17 +85,16 @@ pub fn count_templates(rules: &[u8]) -> Templates
 {
     let mut filters = 0;
     let mut eqs = 0;
-    let mut at = 0;
-    while at < rules.len() {
-        let here = line_templates(rules, at);
+    for line in Lines::new(rules) {
+        let here = line_templates(line);
         filters += here.filters;
         eqs += here.eqs;
-        at = next_line(rules, at);
     }
     Templates { filters, eqs }
 }
 
 // How many rows of each table a store uses, if it is as laid out.
+#[tactic(auto, using(crate::proofs::HostingLaws::rows_told, crate::proofs::HostingLaws::none_told))]
 pub fn used_rows(store: &[u8]) -> Option<Used>
     ensures { result ≡ spec.used_in (view store.now) }
 {

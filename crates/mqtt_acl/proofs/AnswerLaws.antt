@@ -1,7 +1,7 @@
 -- The numbers that the calls on a store answer are small: a rule is at most 256, a line at most 257, a code 4, a QoS 2. Assumes nothing.
-use Prim.Native.Nat.{ℕ, suc, ◌+◌, ◌*◌, ◌≤◌, ◌<◌}
-use mathlib.Core.Path.{◌≡◌, refl, ap}
-use mathlib.Core.Bool.{Bool, true, false, ◌||◌, cond, not, ◌&&◌}
+use Prim.Native.Nat.{ℕ, suc, ◌+◌, ◌≤◌, ◌<◌}
+use mathlib.Core.Path.{◌≡◌, refl}
+use mathlib.Core.Bool.{Bool, true, false, ◌||◌, cond}
 use mathlib.Core.List.{List, [], ◌∷◌}
 use Rattle.std.specs.Prelude.{Option, None, Some, Result, Ok, Err}
 use Rattle.std.specs.Option.{option_map}
@@ -19,13 +19,12 @@ use Rattle.rule.specs.RuleText.{read_rule, fault_in, text_fault, rule_on, rules_
 use Rattle.rule.specs.declared.Fault.{Fault}
 use Rattle.rule.specs.Identity.{Client, superuser}
 use Rattle.rule.specs.declared.Refusal.{Refusal}
-use Rattle.rule.specs.declared.Refusal.TheVariants.{TooLong, OutOfRange, Malformed, Counts as CountsCause, NotJson, NotARule, FilledTooLong, FiltersFull, EqsFull, NotesFull}
-use Rattle.store.specs.Store.{over, counts_fit, store_length, FilterRow, EqRow, View}
+use Rattle.store.specs.Store.{over, counts_fit, FilterRow, EqRow, View}
 use Rattle.store.specs.View.{faultless, openable, well_formed, view}
 use Rattle.store.specs.Opening.{open_fault, told}
 use Rattle.store.specs.declared.Counts.{Counts}
 use Rattle.store.proofs.ViewLaws.{view-well_formed}
-use Rattle.questions.specs.Question.{Question, connect, subscribe, publish, connect_limit, code_limit, qos_limit, client_over, question_cause}
+use Rattle.questions.specs.Question.{Question, connect, subscribe, publish, connect_limit, code_limit, qos_limit, client_over, question_cause, kept, connects, subscribes, publishes, not_authorized, unspecified_error, Reply, refuses, decides}
 use Rattle.questions.specs.Decision.{Wish, client, wish, keeps, rule_agrees, first_from, refusal, allowance, by_rule, ask}
 use Rattle.questions.proofs.AskLaws.{refuses_by, refuses_malformed, keeps_by, decides_by}
 use Rattle.mqtt_acl.specs.Answers.{open_number, decision_number, packed}
@@ -36,15 +35,11 @@ use Rattle.mqtt_acl.proofs.Reading.{open_back}
 
 first_small : (a b : Bool) (n : ℕ) → first ((a, 1) ∷ (b, 2) ∷ []) ≡ Some n → n ≤ 2
 unfolding first
-first_small true b n e = let h : 1 ≡ n = cc in omega arith
-first_small false true n e = let h : 2 ≡ n = cc in omega arith
-first_small false false n e = let z : ◌≡◌ {A = ℕ} 0 1 = cc in omega arith
+first_small a b n e = grind arith
 
 pub first-none : (a b : Bool) → first ((a, 1) ∷ (b, 2) ∷ []) ≡ None → b ≡ false
 unfolding first
-first-none true b e = cc
-first-none false true e = cc
-first-none false false e = refl
+first-none a b e = grind arith
 
 pub cause_small : (q : Question) (n : ℕ) → question_cause q ≡ Some n → n ≤ 2
 unfolding question_cause
@@ -55,8 +50,7 @@ cause_small (publish earlier c topic disconnect) n e = first_small (client_over 
 -- ---- codes and QoS
 
 cond-some : (b : Bool) (n m : ℕ) → cond b (Some n) None ≡ Some m → n ≡ m
-cond-some true n m e = cc
-cond-some false n m e = cc
+cond-some b n m e = grind arith
 
 kept_small : (q : Question) (code : ℕ) → question_cause q ≡ None → keeps q ≡ Some code → code ≤ 4
 unfolding question_cause keeps
@@ -71,37 +65,6 @@ kept_small (publish earlier c topic disconnect) code e k =
     let is = cond-some (eqb earlier 2) earlier code k in
     omega (arith, ltb-false code_limit earlier (first-none (client_over c || over text_limit topic) (ltb code_limit earlier) e))
 
--- ---- decisions
-
-refusal_small : (q : Question) (n : ℕ) → n ≤ 256 → decision_number (refusal q n) ≤ 4111
-unfolding decision_number refusal
-refusal_small (connect earlier c) n h = omega arith
-refusal_small (subscribe earlier c topic qos) n h = omega arith
-refusal_small (publish earlier c topic true) n h = omega arith
-refusal_small (publish earlier c topic false) n h = omega arith
-
-allowance_small : (q : Question) (n : ℕ) (r : Meaning) → question_cause q ≡ None → n ≤ 256 → decision_number (allowance q n r) ≤ 4111
-unfolding decision_number allowance question_cause
-allowance_small (connect earlier c) n r e h = by (superuser r)
-  where
-    by : (b : Bool) → 16 * n + cond b 3 2 ≤ 4111
-    by true = omega arith
-    by false = omega arith
-allowance_small (subscribe earlier c topic qos) n r e h =
-    let k = or_split (ltb code_limit earlier) (ltb qos_limit qos) (first-none (client_over c || over text_limit topic) _ e) in
-    omega (arith, ltb-false qos_limit qos k.1)
-allowance_small (publish earlier c topic disconnect) n r e h = omega arith
-
-by_rule_small : (q : Question) (o : Option (ℕ × Meaning)) → question_cause q ≡ None → ((f : ℕ × Meaning) → o ≡ Some f → f.0 < 256)
-    → decision_number (by_rule q o) ≤ 4111
-unfolding by_rule
-by_rule_small q None e h = refusal_small q 0 (omega arith)
-by_rule_small q (Some f) e h = by f.1.allow
-  where
-    by : (b : Bool) → decision_number (cond b (allowance q (suc f.0) f.1) (refusal q (suc f.0))) ≤ 4111
-    by true = allowance_small q (suc f.0) f.1 e (omega (arith, h f refl))
-    by false = refusal_small q (suc f.0) (omega (arith, h f refl))
-
 -- ---- the rule that decides is one of the text's
 
 module _ (some_filter : (FilterRow → Bool) → Bool) (some_eq : (EqRow → Bool) → Bool) (c : Client) (w : Wish) where
@@ -113,22 +76,15 @@ module _ (some_filter : (FilterRow → Bool) → Bool) (some_eq : (EqRow → Boo
     where
       by : (b : Bool) → (first_from some_filter some_eq c w (suc n) rules ≡ Some f → f.0 < suc n + length rules)
           → cond b (Some (n, r)) (first_from some_filter some_eq c w (suc n) rules) ≡ Some f → f.0 < n + suc (length rules)
-      by true h k = let is : (n, r) ≡ f = cc in omega (arith, ap (λ (p : ℕ × Meaning). p.0) is)
-      by false h k = omega (arith, h k)
+      by b h k = grind arith
 
 lines_few : (text : List ℕ) → text_fault text ≡ None → length (lines text) ≤ lines_limit
 unfolding text_fault
-lines_few text e = at (ltb lines_limit (length (lines text))) refl e
-  where
-    at : (b : Bool) → ltb lines_limit (length (lines text)) ≡ b
-        → cond b (Some (record { cause = TooLong; line = suc lines_limit })) (fault_in 1 (lines text)) ≡ None → length (lines text) ≤ lines_limit
-    at true q k = let z : ◌≡◌ {A = ℕ} 0 1 = cc in absurd (omega arith)
-    at false q k = ltb-false lines_limit (length (lines text)) q
+lines_few text e = grind (arith, ltb-false)
 
 faultless_none : (o : Option Fault) → faultless o ≡ true → o ≡ None
 unfolding faultless
-faultless_none None e = refl
-faultless_none (Some f) e = cc
+faultless_none o e = grind arith
 
 -- "over 256 lines" is refused
 rules_few : (v : View) → well_formed v ≡ true → length (rules_of v.text) ≤ 256
@@ -139,56 +95,84 @@ rules_few v e =
     let l = and_split (leb (length v.text) v.counts.bytes) _ k.1 in
     omega (arith, length-map (lines v.text) (λ line. rule_on (read_rule line)), lines_few v.text (faultless_none (text_fault v.text) l.1))
 
--- ---- every answer
+-- ---- what a question is answered
 
-keeps_small : (q : Question) (s : List ℕ) (v : View) → question_cause q ≡ None → view s ≡ Some v → (o : Option ℕ) → keeps q ≡ o → packed (ask q s) ≤ 4111
-unfolding packed decision_number
-keeps_small q s v e h (Some code) k = rw (keeps_by q s e h k) (omega (arith, kept_small q code e k))
-keeps_small q s v e h None k =
+pub data Answered : Reply → Type 0 where
+  by_number : (n : ℕ) → n ≤ 10 → Answered (refuses n 0)
+  by_code : (code : ℕ) → code ≤ 4 → Answered (decides (kept code))
+  connected : (rule : ℕ) (flag : Bool) → rule ≤ 256 → Answered (decides (connects rule flag))
+  subscribed : (rule qos : ℕ) → rule ≤ 256 → qos ≤ 2 → Answered (decides (subscribes rule qos))
+  published : (rule : ℕ) → rule ≤ 256 → Answered (decides (publishes rule))
+  denied : (rule : ℕ) (disconnect : Option Bool) → rule ≤ 256 → Answered (decides (not_authorized rule disconnect))
+  failed : (rule : ℕ) → rule ≤ 256 → Answered (decides (unspecified_error rule))
+
+refusal_answered : (q : Question) (n : ℕ) → n ≤ 256 → Answered (decides (refusal q n))
+unfolding refusal
+refusal_answered (connect earlier c) n h = denied n None h
+refusal_answered (subscribe earlier c topic qos) n h = failed n h
+refusal_answered (publish earlier c topic disconnect) n h = denied n (Some disconnect) h
+
+allowance_answered : (q : Question) (n : ℕ) (r : Meaning) → question_cause q ≡ None → n ≤ 256 → Answered (decides (allowance q n r))
+unfolding allowance question_cause
+allowance_answered (connect earlier c) n r e h = connected n (superuser r) h
+allowance_answered (subscribe earlier c topic qos) n r e h =
+    let k = or_split (ltb code_limit earlier) (ltb qos_limit qos) (first-none (client_over c || over text_limit topic) _ e) in
+    subscribed n qos h (ltb-false qos_limit qos k.1)
+allowance_answered (publish earlier c topic disconnect) n r e h = published n h
+
+by_rule-answered : (q : Question) (o : Option (ℕ × Meaning)) → question_cause q ≡ None → ((f : ℕ × Meaning) → o ≡ Some f → f.0 < 256)
+    → Answered (decides (by_rule q o))
+unfolding by_rule
+by_rule-answered q None e h = refusal_answered q 0 (omega arith)
+by_rule-answered q (Some f) e h = by f.1.allow
+  where
+    by : (b : Bool) → Answered (decides (cond b (allowance q (suc f.0) f.1) (refusal q (suc f.0))))
+    by true = allowance_answered q (suc f.0) f.1 e (omega (arith, h f refl))
+    by false = refusal_answered q (suc f.0) (omega (arith, h f refl))
+
+laid_answered : (q : Question) (s : List ℕ) (v : View) → question_cause q ≡ None → view s ≡ Some v → (o : Option ℕ) → keeps q ≡ o → Answered (ask q s)
+laid_answered q s v e h (Some code) k = rw (keeps_by q s e h k) (by_code code (kept_small q code e k))
+laid_answered q s v e h None k =
     let few = rules_few v (view-well_formed s v h) in
     rw (decides_by q s e h k)
-    (by_rule_small q _ e (λ f is. omega (arith, first_below (λ p. some_row p v.filters) (λ p. some_row p v.eqs) (client q) (wish q) 0 (rules_of v.text) f is)))
+    (by_rule-answered q _ e (λ f is. omega (arith, first_below (λ p. some_row p v.filters) (λ p. some_row p v.eqs) (client q) (wish q) 0 (rules_of v.text) f is)))
 
-view_small : (q : Question) (s : List ℕ) → question_cause q ≡ None → (o : Option View) → view s ≡ o → packed (ask q s) ≤ 4111
-unfolding packed
-view_small q s e None h = rw (refuses_malformed q s e h) (omega arith)
-view_small q s e (Some v) h = keeps_small q s v e h (keeps q) refl
+view-answered : (q : Question) (s : List ℕ) → question_cause q ≡ None → (o : Option View) → view s ≡ o → Answered (ask q s)
+view-answered q s e None h = rw (refuses_malformed q s e h) (by_number 3 (omega arith))
+view-answered q s e (Some v) h = laid_answered q s v e h (keeps q) refl
+
+pub answered : (q : Question) (s : List ℕ) → Answered (ask q s)
+answered q s = by (question_cause q) refl
+  where
+    by : (o : Option ℕ) → question_cause q ≡ o → Answered (ask q s)
+    by (Some n) e = rw (refuses_by q s e) (by_number n (omega (arith, cause_small q n e)))
+    by None e = view-answered q s e (view s) refl
+
+answered_small : {r : Reply} → Answered r → packed r ≤ 4111
+unfolding packed decision_number
+answered_small (by_number n h) = omega (arith, h)
+answered_small (by_code code h) = omega (arith, h)
+answered_small (connected rule true h) = omega (arith, h)
+answered_small (connected rule false h) = omega (arith, h)
+answered_small (subscribed rule qos h l) = omega (arith, h, l)
+answered_small (published rule h) = omega (arith, h)
+answered_small (denied rule None h) = omega (arith, h)
+answered_small (denied rule (Some true) h) = omega (arith, h)
+answered_small (denied rule (Some false) h) = omega (arith, h)
+answered_small (failed rule h) = omega (arith, h)
 
 pub answer_small : (q : Question) (s : List ℕ) → packed (ask q s) ≤ 4111
-unfolding packed
-answer_small q s = by (question_cause q) refl
-  where
-    by : (o : Option ℕ) → question_cause q ≡ o → packed (ask q s) ≤ 4111
-    by (Some n) e = rw (refuses_by q s e) (omega (arith, cause_small q n e))
-    by None e = view_small q s e (view s) refl
+answer_small q s = answered_small (answered q s)
 
 -- ---- opening
 
 pub number_small : (cause : Refusal) → number cause ≤ 10
 unfolding number
-number_small TooLong = omega arith
-number_small OutOfRange = omega arith
-number_small Malformed = omega arith
-number_small CountsCause = omega arith
-number_small NotJson = omega arith
-number_small NotARule = omega arith
-number_small FilledTooLong = omega arith
-number_small FiltersFull = omega arith
-number_small EqsFull = omega arith
-number_small NotesFull = omega arith
+number_small cause = grind arith
 
 number_some : (cause : Refusal) → 1 ≤ number cause
 unfolding number
-number_some TooLong = omega arith
-number_some OutOfRange = omega arith
-number_some Malformed = omega arith
-number_some CountsCause = omega arith
-number_some NotJson = omega arith
-number_some NotARule = omega arith
-number_some FilledTooLong = omega arith
-number_some FiltersFull = omega arith
-number_some EqsFull = omega arith
-number_some NotesFull = omega arith
+number_some cause = grind arith
 
 fault-line : (n : ℕ) (ls : List (List ℕ)) (f : Fault) → fault_in n ls ≡ Some f → f.line < n + length ls
 unfolding fault_in
@@ -197,36 +181,19 @@ fault-line n (line ∷ rest) f e = by (read_rule line) (fault-line (suc n) rest 
   where
     by : (o : Result Rule Refusal) → (fault_in (suc n) rest ≡ Some f → f.line < suc n + length rest)
         → (elim o as (λ _. Option Fault) [ Err cause ↦ Some (record { cause = cause; line = n }) | Ok r ↦ fault_in (suc n) rest ]) ≡ Some f → f.line < n + suc (length rest)
-    by (Err cause) h k =
-        let is : record { cause = cause; line = n } ≡ f = cc in omega (arith, ap (λ (g : Fault). g.line) is)
-    by (Ok r) h k = omega (arith, h k)
+    by o h k = grind arith
 
 text_line : (text : List ℕ) (f : Fault) → text_fault text ≡ Some f → f.line ≤ 257
 unfolding text_fault
-text_line text f e = at (ltb lines_limit (length (lines text))) refl e
-  where
-    at : (b : Bool) → ltb lines_limit (length (lines text)) ≡ b
-        → cond b (Some (record { cause = TooLong; line = suc lines_limit })) (fault_in 1 (lines text)) ≡ Some f → f.line ≤ 257
-    at true q k = let is : record { cause = TooLong; line = suc lines_limit } ≡ f = cc in omega (arith, ap (λ (g : Fault). g.line) is)
-    at false q k = omega (arith, ltb-false lines_limit (length (lines text)) q, fault-line 1 (lines text) f k)
+text_line text f e = grind (arith, ltb-false, fault-line)
 
 open_line : (c : Counts) (text : List ℕ) (room : ℕ) (f : Fault) → open_fault c text room ≡ Some f → f.line ≤ 257
 unfolding open_fault
-open_line c text room f e = by (not (counts_fit c && eqb room (store_length c))) (ltb c.bytes (length text)) e
-  where
-    by : (a b : Bool) → cond a (Some (record { cause = CountsCause; line = 0 })) (cond b (Some (record { cause = TooLong; line = 0 })) (text_fault text)) ≡ Some f
-        → f.line ≤ 257
-    by true b k = let is : record { cause = CountsCause; line = 0 } ≡ f = cc in omega (arith, ap (λ (g : Fault). g.line) is)
-    by false true k = let is : record { cause = TooLong; line = 0 } ≡ f = cc in omega (arith, ap (λ (g : Fault). g.line) is)
-    by false false k = text_line text f k
+open_line c text room f e = grind (arith, text_line)
 
 pub open_small : (c : Counts) (text : List ℕ) (room : ℕ) → open_number (option_map told (open_fault c text room)) ≤ 66047
 unfolding open_number told
-open_small c text room = by (open_fault c text room) refl
-  where
-    by : (o : Option Fault) → open_fault c text room ≡ o → open_number (option_map told o) ≤ 66047
-    by None e = omega arith
-    by (Some f) e = omega (arith, number_small f.cause, open_line c text room f e)
+open_small c text room = grind (arith, number_small, open_line)
 
 -- every answer of opening is what its number says
 pub open_read_back : (c : Counts) (text : List ℕ) (room : ℕ)
@@ -237,5 +204,3 @@ open_read_back c text room = by (open_fault c text room)
     by : (o : Option Fault) → read_open (open_number (option_map told o)) ≡ option_map told o
     by None = refl
     by (Some f) = open_back (number f.cause) f.line (number_small f.cause) (number_some f.cause)
-
--- ---- the protocol that counts where its flag is true

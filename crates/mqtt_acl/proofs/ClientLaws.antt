@@ -2,7 +2,7 @@
 -- number's parts, so that no two have the same. Assumes nothing.
 use Prim.Native.Nat.{ℕ, zero, suc, ◌+◌, ◌≤◌, ◌<◌}
 use mathlib.Core.Path.{◌≡◌, refl, ap, ◌∙◌}
-use mathlib.Core.Bool.{Bool, true, false, ◌||◌, cond}
+use mathlib.Core.Bool.{Bool, true, false, cond}
 use mathlib.Core.List.{List, [], ◌∷◌}
 use Rattle.std.specs.Prelude.{Option, None, Some, Result, Ok, Err}
 use native.Mathlib.Omega.{arith}
@@ -57,8 +57,7 @@ hit_below q n (r ∷ rules) h e = by (hits q r) (hit_below q (suc n) rules h) e
   where
     by : (b : Bool) → (first_hit q (suc n) rules ≡ Some h → h.0 < suc n + length rules)
         → cond b (Some (n, r)) (first_hit q (suc n) rules) ≡ Some h → h.0 < n + suc (length rules)
-    by true k i = let is : (n, r) ≡ h = cc in omega (arith, ap (λ (p : ℕ × ClientRule). p.0) is)
-    by false k i = omega (arith, k i)
+    by b k i = grind arith
 
 allowance_answered : (q : Question) (n : ℕ) → qos_asked q ≤ 2 → n ≤ 256 → Answered (decides (allowance q n))
 unfolding allowance qos_asked
@@ -91,19 +90,13 @@ cause-line : (a b d : Bool) (f : Fault)
     → first_fault ((a, record { cause = TooLong; line = 0 }) ∷ (b, record { cause = TooLong; line = suc lines_limit }) ∷ (d, record { cause = OutOfRange; line = 0 }) ∷ []) ≡ Some f
     → f.line ≤ 257
 unfolding first_fault
-cause-line true b d f e = let is : record { cause = TooLong; line = 0 } ≡ f = cc in omega (arith, ap (λ (g : Fault). g.line) is)
-cause-line false true d f e = let is : record { cause = TooLong; line = suc lines_limit } ≡ f = cc in omega (arith, ap (λ (g : Fault). g.line) is)
-cause-line false false true f e = let is : record { cause = OutOfRange; line = 0 } ≡ f = cc in omega (arith, ap (λ (g : Fault). g.line) is)
-cause-line false false false f e = let z : ◌≡◌ {A = ℕ} 0 1 = cc in omega arith
+cause-line a b d f e = grind arith
 
 no_cause : (a b d : Bool)
     → first_fault ((a, record { cause = TooLong; line = 0 }) ∷ (b, record { cause = TooLong; line = suc lines_limit }) ∷ (d, record { cause = OutOfRange; line = 0 }) ∷ []) ≡ None
     → (b ≡ false) × (d ≡ false)
 unfolding first_fault
-no_cause true b d e = let z : ◌≡◌ {A = ℕ} 0 1 = cc in absurd (omega arith)
-no_cause false true d e = let z : ◌≡◌ {A = ℕ} 0 1 = cc in absurd (omega arith)
-no_cause false false true e = let z : ◌≡◌ {A = ℕ} 0 1 = cc in absurd (omega arith)
-no_cause false false false e = (refl, refl)
+no_cause a b d e = grind arith
 
 answered : (c : Client) (rules : List ℕ) (q : Question) → Answered (ask c rules q)
 unfolding ask causes refuse
@@ -166,10 +159,4 @@ client-allows_back c rules q = (answered_back (answered c rules q)).1
 -- and of an expiry
 pub expiry_read_back : (e : Option Time) (now : Time) → on_expiry (parts (expiry_number (expiry.expiry e now))) ≡ Some (expiry.expiry e now)
 unfolding expiry.expiry expiry_number parts parts_by on_expiry
-expiry_read_back e now = by (expiry.expiry_over e || expiry.over_nanoseconds now.nanoseconds) (expiry.is_expired e now)
-  where
-    by : (over is : Bool)
-        → on_expiry (parts (expiry_number (cond over (expiry.refuses 2) (expiry.decides is)))) ≡ Some (cond over (expiry.refuses 2) (expiry.decides is))
-    by true is = refl
-    by false true = refl
-    by false false = refl
+expiry_read_back e now = grind arith

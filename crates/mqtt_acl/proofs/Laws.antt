@@ -2,6 +2,7 @@
 use Prim.Native.Nat.{ℕ}
 use mathlib.Core.Path.{◌≡◌, refl, sym, ap, ◌∙◌}
 use mathlib.Core.List.{List}
+use native.Mathlib.Omega.{arith}
 use Rattle.std.specs.Prelude.{Option, Ok, Err, Result}
 use Rattle.json_text.specs.Json.{line_value}
 use Rattle.rule.specs.Refusals.{number}
@@ -24,8 +25,7 @@ refusal_by (Ok r) = 0
 
 refusal_answer : (topics : Option Value) (o : Result spec.Rule Refusal) → refusal_by (rule_answer topics o) ≡ refusal_number o
 unfolding refusal_by rule_answer refusal_number
-refusal_answer topics (Err cause) = refl
-refusal_answer topics (Ok r) = refl
+refusal_answer topics o = grind arith
 
 pub refusal_by_lem :
     (line : List ℕ) {answer read : Result Rule Refusal} → answer ≡ rule_answer (fourth_of (line_value line)) (read_rule line) → answer ≡ read

@@ -3,3 +3,4 @@ mod Reading
 mod AnswerLaws
 mod Unpacked
 mod ClientLaws
+mod HostLaws

@@ -1,29 +1,19 @@
 -- What is read from a number: of opening, by what the code computes; and that a packed number is read back. Assumes nothing.
 use Prim.Native.Nat.{ℕ, ◌+◌, ◌*◌, ◌/◌, ◌%◌, ◌≤◌}
-use mathlib.Core.Path.{◌≡◌, refl, sym, ap, ◌∙◌}
-use mathlib.Core.Bool.{Bool, true, false, cond}
-use Rattle.std.specs.Prelude.{None, Some}
+use mathlib.Core.Path.{◌≡◌, refl, ap, ◌∙◌}
+use Rattle.std.specs.Prelude.{Some}
 use native.Mathlib.Nat.{mul-add-div, mul-add-mod_self_left, mod-eq_of_lt, div-eq_of_lt}
 use native.Mathlib.Omega.{arith}
-use lib.Dec.{eqb}
-use borrow.Author.Tests.{eqb-true, ne_eqb}
+use borrow.Author.Tests.{ne_eqb}
 use Rattle.mqtt_acl.specs.Unpacked.{parts_by, parts, read_open, open_refusal, open_line}
 
 pub open_refusal_read : (n : ℕ) → open_refusal (read_open n) ≡ n % 256
 unfolding read_open open_refusal
-open_refusal_read n = at (eqb n 0) refl
-  where
-    at : (b : Bool) → eqb n 0 ≡ b → open_refusal (cond b None (Some (n % 256, n / 256))) ≡ n % 256
-    at true e = ap (λ m. m % 256) (sym (eqb-true n 0 e))
-    at false e = refl
+open_refusal_read n = grind arith
 
 pub open_line_read : (n : ℕ) → open_line (read_open n) ≡ n / 256
 unfolding read_open open_line
-open_line_read n = at (eqb n 0) refl
-  where
-    at : (b : Bool) → eqb n 0 ≡ b → open_line (cond b None (Some (n % 256, n / 256))) ≡ n / 256
-    at true e = ap (λ m. m / 256) (sym (eqb-true n 0 e))
-    at false e = refl
+open_line_read n = grind arith
 
 -- ---- what was packed
 

@@ -1,6 +1,6 @@
 // The per-client rules for a host: subscribe and publish by the rules that came with a client's credentials, and whether these still hold.
 // Answers are the numbers of specs/Clients.antt; an optional value counts where its flag is true.
-ghost use Rattle.std.specs.Prelude.{◌≡◌, ◌+◌, ◌*◌, ◌≤◌};
+ghost use Rattle.std.specs.Prelude.{◌≡◌, ◌≤◌};
 ghost use Rattle.authinfo.specs.Decision as decision;
 ghost use Rattle.authinfo.specs.Answers as said;
 ghost use Rattle.authinfo.specs.Expiry as expiry;
@@ -14,27 +14,17 @@ use authinfo::times::expired;
 use authinfo::{PublishAnswer, SubscribeAnswer, Time};
 use rule::{Fault, Refusal, refusal_number};
 
-// What is answered, below 16, with its rule, or its number and line.
-fn with_value(value: u64, what: u64) -> u64
-    requires { 16 * value + what ≤ 1052832 }
-    ensures { result ≡ 16 * value + what }
-{
-    16 * value + what
-}
-
+// What a subscribe is answered, as a number.
 #[tactic(auto, unfolding(crate::specs::Clients::packed, crate::specs::Clients::decision_number, authinfo::specs::Answers::subscribe_says))]
 fn subscribe_number(answer: Result<SubscribeAnswer, Fault>) -> u64
     requires { clients.packed (said.subscribe_says answer) ≤ 1052832 }
     ensures { result ≡ clients.packed (said.subscribe_says answer) }
 {
     match answer {
-        Ok(SubscribeAnswer::Allow(rule, qos)) => with_value(rule as u64, 4 + qos),
-        Ok(SubscribeAnswer::Refuse(rule)) => with_value(rule as u64, 8),
+        Ok(SubscribeAnswer::Allow(rule, qos)) => 16 * rule as u64 + 4 + qos,
+        Ok(SubscribeAnswer::Refuse(rule)) => 16 * rule as u64 + 8,
         Ok(SubscribeAnswer::NoDecision) => 12,
-        Err(fault) => with_value(
-            refusal_number(fault.cause) as u64 + 256 * fault.line as u64,
-            0,
-        ),
+        Err(fault) => 16 * (refusal_number(fault.cause) as u64 + 256 * fault.line as u64),
     }
 }
 
@@ -63,20 +53,18 @@ pub fn mqtt_acl_client_subscribe(
     subscribe_number(client_subscribe(&client, rules, qos, topic))
 }
 
+// What a publish is answered, as a number.
 #[tactic(auto, unfolding(crate::specs::Clients::packed, crate::specs::Clients::decision_number, authinfo::specs::Answers::publish_says))]
 fn publish_number(answer: Result<PublishAnswer, Fault>) -> u64
     requires { clients.packed (said.publish_says answer) ≤ 1052832 }
     ensures { result ≡ clients.packed (said.publish_says answer) }
 {
     match answer {
-        Ok(PublishAnswer::Allow(rule)) => with_value(rule as u64, 7),
-        Ok(PublishAnswer::Refuse(rule, true)) => with_value(rule as u64, 10),
-        Ok(PublishAnswer::Refuse(rule, false)) => with_value(rule as u64, 9),
+        Ok(PublishAnswer::Allow(rule)) => 16 * rule as u64 + 7,
+        Ok(PublishAnswer::Refuse(rule, true)) => 16 * rule as u64 + 10,
+        Ok(PublishAnswer::Refuse(rule, false)) => 16 * rule as u64 + 9,
         Ok(PublishAnswer::NoDecision) => 12,
-        Err(fault) => with_value(
-            refusal_number(fault.cause) as u64 + 256 * fault.line as u64,
-            0,
-        ),
+        Err(fault) => 16 * (refusal_number(fault.cause) as u64 + 256 * fault.line as u64),
     }
 }
 
@@ -99,6 +87,7 @@ pub fn mqtt_acl_client_publish(
     publish_number(client_publish(&client, rules, qos, flag(retain), flag(disconnect), topic))
 }
 
+// What is answered of an expiry, as a number.
 #[tactic(auto, unfolding(crate::specs::Clients::expiry_number, authinfo::specs::Expiry::expiry_says))]
 fn expiry_number(answer: Result<bool, Refusal>) -> u64
     ensures { result ≡ clients.expiry_number (expiry.expiry_says answer) }

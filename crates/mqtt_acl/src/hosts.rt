@@ -1,5 +1,5 @@
 // What a host asks beside the calls: is an id or a name plain, what does a rule text ask of the tables, how many rows are used.
-ghost use Rattle.std.specs.Prelude.{◌≡◌, ◌+◌, ◌*◌, ◌≤◌};
+ghost use Rattle.std.specs.Prelude.{◌≡◌};
 ghost use Rattle.store.specs.View.{view};
 ghost use Rattle.hosting.specs.Hosting as spec;
 ghost use Rattle.mqtt_acl.specs.Rules as rules;
@@ -19,32 +19,25 @@ pub fn mqtt_acl_plain_name(name: &[u8]) -> u8
 pub fn mqtt_acl_filter_templates(rules: &[u8]) -> usize
     ensures { result ≡ (spec.templates rules.now).filters }
 {
-    let found = count_templates(rules);
-    found.filters
+    count_templates(rules).filters
 }
 
 // The eq templates of a rule text: a client asks for so many eq rows at the most.
 pub fn mqtt_acl_eq_templates(rules: &[u8]) -> usize
     ensures { result ≡ (spec.templates rules.now).eqs }
 {
-    let found = count_templates(rules);
-    found.eqs
-}
-
-// Three counts as one number.
-fn rows_number(filters: usize, eqs: usize, notes: usize) -> u64
-    requires { (filters ≤ 4096) × (eqs ≤ 4096) × (notes ≤ 4096) }
-    ensures { result ≡ filters + 65536 * eqs + 4294967296 * notes }
-{
-    filters as u64 + 65536 * eqs as u64 + 4294967296 * notes as u64
+    count_templates(rules).eqs
 }
 
 // The used rows of a store: filter rows, 65,536 times eq rows and 4,294,967,296 times note rows; 2^64-1 if it is not as laid out.
+#[tactic(auto, using(crate::proofs::HostLaws::rows_fit), unfolding(crate::specs::Hosts::used_number))]
 pub fn mqtt_acl_used_rows(store: &[u8]) -> u64
     ensures { result ≡ hosts.used_number (spec.used_in (view store.now)) }
 {
-    let Some(used) = used_rows(store) else {
-        return 18446744073709551615;
-    };
-    rows_number(used.filters, used.eqs, used.notes)
+    match used_rows(store) {
+        Some(used) => {
+            used.filters as u64 + 65536 * used.eqs as u64 + 4294967296 * used.notes as u64
+        }
+        None => u64::MAX,
+    }
 }

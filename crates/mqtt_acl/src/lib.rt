@@ -1,13 +1,14 @@
 // The library for C and Rust: what a host calls, under names that begin with `mqtt_acl_`; `mqtt_acl_c` exports it. Of the other crates only
-// `vectors` calls it. A text and a store are lent, a flag is a byte; `mqtt_acl_open` and the events write the store, the questions only
-// read it. Answers on a store are the numbers of specs/Answers.antt, and `unpacking` takes them apart.
+// `vectors` calls it. A text and a store are lent; `mqtt_acl_open` and the events write the store, the questions only read it. An optional
+// value is a flag, which is a byte, and the value beside it, and an answer a number, since C has no `Option` and no `Result`. Answers on a
+// store are the numbers of specs/Answers.antt, and `unpacking` takes them apart.
 #![tactic(auto)]
 
 pub mod clients;
 pub mod hosts;
 pub mod unpacking;
 
-ghost use Rattle.std.specs.Prelude.{◌≡◌, ◌+◌, ◌*◌, ◌≤◌, length, Some};
+ghost use Rattle.std.specs.Prelude.{◌≡◌, ◌≤◌, length, Some};
 ghost use Rattle.std.specs.Option.{option_map};
 ghost use Rattle.json_text.specs.Json.{line_value};
 ghost use Rattle.json_text.specs.Access.{is_document, document_within};
@@ -32,6 +33,7 @@ use rule::{Fault, Refusal, refusal_number};
 use store::opening::open;
 
 // A flag: 0 is false, every other number true.
+#[tactic(auto, unfolding(crate::specs::Rules::flag))]
 fn flag(n: u8) -> bool
     ensures { result ≡ rules.flag n }
 {
@@ -39,16 +41,15 @@ fn flag(n: u8) -> bool
 }
 
 // 1 yes, 0 no.
+#[tactic(auto, unfolding(crate::specs::Rules::yes))]
 fn yes(is: bool) -> u8
     ensures { result ≡ rules.yes is }
 {
-    if is {
-        return 1;
-    }
-    0
+    u8::from(is)
 }
 
 // The version of the library: 10,000 times its first number, 100 times its second, and its third.
+#[tactic(auto, unfolding(crate::specs::Rules::version))]
 pub fn mqtt_acl_version() -> u32
     ensures { result ≡ rules.version }
 {
@@ -91,6 +92,7 @@ pub fn mqtt_acl_is_document_within(line: &[u8], most: usize) -> u8
 }
 
 // The number of document 01 for a rule line that is refused, 0 for a rule.
+#[tactic(auto, using(crate::proofs::Laws::refusal_by_lem), unfolding(crate::proofs::Laws::refusal_by))]
 pub fn mqtt_acl_rule_refusal(line: &[u8]) -> u8
     ensures { result ≡ rules.refusal_of line.now }
 {
@@ -100,7 +102,8 @@ pub fn mqtt_acl_rule_refusal(line: &[u8]) -> u8
     }
 }
 
-// A value of a call, where its flag is true.
+// A value of a call, where its flag is true. The calls hand these to `Client::new` one by one: a function for all would take as many flags
+// and values as the calls do.
 #[tactic(auto, unfolding(crate::specs::Rules::where_true))]
 fn given<T: Copy>(has: u8, value: T) -> Option<T>
     ensures { result ≡ rules.where_true (rules.flag has) value }
@@ -116,6 +119,7 @@ fn given_text(has: u8, text: &[u8]) -> Option<&[u8]>
     given(has, text)
 }
 
+// How the users agree, as a number.
 #[tactic(auto, unfolding(crate::specs::Rules::identity_number))]
 fn identity_number(answer: Option<bool>) -> u8
     ensures { result ≡ rules.identity_number answer }
@@ -157,6 +161,7 @@ pub fn mqtt_acl_identity(
     identity_number(identity(line, found.users, &client))
 }
 
+// What opening answered, as a number.
 #[tactic(auto, unfolding(crate::specs::Answers::open_number, store::specs::Opening::says))]
 fn opened_number(answer: Result<(), Fault>) -> u32
     requires { answers.open_number (opening.says answer) ≤ 66047 }
@@ -169,6 +174,7 @@ fn opened_number(answer: Result<(), Fault>) -> u32
 }
 
 // Opens a store for a rule text: 0 done, else the number of document 01 plus 256 times the line. Refused, the store is unchanged.
+#[tactic(auto, using(crate::proofs::AnswerLaws::open_small))]
 pub fn mqtt_acl_open(
     store: &mut [u8],
     bytes: u64,
@@ -183,6 +189,7 @@ pub fn mqtt_acl_open(
     opened_number(open(store, bytes, filters, eqs, notes, text))
 }
 
+// What an event answered, as a number.
 #[tactic(auto, unfolding(crate::specs::Answers::event_number, events::specs::Event::says))]
 fn event_number(answer: Result<(), Refusal>) -> u8
     ensures { result ≡ answers.event_number (event.says answer) }
@@ -223,25 +230,19 @@ pub fn mqtt_acl_ended(store: &mut [u8], session: u64) -> u8
     event_number(ended(store, session))
 }
 
-// What is answered, below 16, with its rule or code.
-fn numbered(value: u64, what: u64) -> u32
-    requires { 16 * value + what ≤ 4111 }
-    ensures { result ≡ 16 * value + what }
-{
-    (16 * value + what) as u32
-}
-
+// What a connect is answered, as a number. Three functions for the three questions: a trait would share the arm of a refusal alone, and each
+// answer would need its decision as a definition, with a lemma that ties it to `connect_says` and the like.
 #[tactic(auto, unfolding(crate::specs::Answers::packed, crate::specs::Answers::decision_number, questions::specs::Answers::connect_says))]
 fn connect_number(answer: Result<ConnectAnswer, Refusal>) -> u32
     requires { answers.packed (said.connect_says answer) ≤ 4111 }
     ensures { result ≡ answers.packed (said.connect_says answer) }
 {
     match answer {
-        Ok(ConnectAnswer::Kept(code)) => numbered(code, 1),
-        Ok(ConnectAnswer::Allow(rule, true)) => numbered(rule as u64, 3),
-        Ok(ConnectAnswer::Allow(rule, false)) => numbered(rule as u64, 2),
-        Ok(ConnectAnswer::Refuse(rule)) => numbered(rule as u64, 8),
-        Err(cause) => numbered(refusal_number(cause) as u64, 0),
+        Ok(ConnectAnswer::Kept(code)) => 16 * code as u32 + 1,
+        Ok(ConnectAnswer::Allow(rule, true)) => 16 * rule as u32 + 3,
+        Ok(ConnectAnswer::Allow(rule, false)) => 16 * rule as u32 + 2,
+        Ok(ConnectAnswer::Refuse(rule)) => 16 * rule as u32 + 8,
+        Err(cause) => 16 * refusal_number(cause) as u32,
     }
 }
 
@@ -272,16 +273,17 @@ pub fn mqtt_acl_connect(
     connect_number(connect(store, earlier, &client))
 }
 
+// What a subscribe is answered, as a number.
 #[tactic(auto, unfolding(crate::specs::Answers::packed, crate::specs::Answers::decision_number, questions::specs::Answers::subscribe_says))]
 fn subscribe_number(answer: Result<SubscribeAnswer, Refusal>) -> u32
     requires { answers.packed (said.subscribe_says answer) ≤ 4111 }
     ensures { result ≡ answers.packed (said.subscribe_says answer) }
 {
     match answer {
-        Ok(SubscribeAnswer::Kept(code)) => numbered(code, 1),
-        Ok(SubscribeAnswer::Allow(rule, qos)) => numbered(rule as u64, 4 + qos),
-        Ok(SubscribeAnswer::Refuse(rule)) => numbered(rule as u64, 11),
-        Err(cause) => numbered(refusal_number(cause) as u64, 0),
+        Ok(SubscribeAnswer::Kept(code)) => 16 * code as u32 + 1,
+        Ok(SubscribeAnswer::Allow(rule, qos)) => 16 * rule as u32 + 4 + qos as u32,
+        Ok(SubscribeAnswer::Refuse(rule)) => 16 * rule as u32 + 11,
+        Err(cause) => 16 * refusal_number(cause) as u32,
     }
 }
 
@@ -314,17 +316,18 @@ pub fn mqtt_acl_subscribe(
     subscribe_number(subscribe(store, earlier, &client, topic, qos))
 }
 
+// What a publish is answered, as a number.
 #[tactic(auto, unfolding(crate::specs::Answers::packed, crate::specs::Answers::decision_number, questions::specs::Answers::publish_says))]
 fn publish_number(answer: Result<PublishAnswer, Refusal>) -> u32
     requires { answers.packed (said.publish_says answer) ≤ 4111 }
     ensures { result ≡ answers.packed (said.publish_says answer) }
 {
     match answer {
-        Ok(PublishAnswer::Kept(code)) => numbered(code, 1),
-        Ok(PublishAnswer::Allow(rule)) => numbered(rule as u64, 7),
-        Ok(PublishAnswer::Refuse(rule, true)) => numbered(rule as u64, 10),
-        Ok(PublishAnswer::Refuse(rule, false)) => numbered(rule as u64, 9),
-        Err(refusal) => numbered(refusal_number(refusal) as u64, 0),
+        Ok(PublishAnswer::Kept(code)) => 16 * code as u32 + 1,
+        Ok(PublishAnswer::Allow(rule)) => 16 * rule as u32 + 7,
+        Ok(PublishAnswer::Refuse(rule, true)) => 16 * rule as u32 + 10,
+        Ok(PublishAnswer::Refuse(rule, false)) => 16 * rule as u32 + 9,
+        Err(refusal) => 16 * refusal_number(refusal) as u32,
     }
 }
 

@@ -1,5 +1,6 @@
 // The library for C and Rust as an archive: each function of mqtt_acl under its own name and by the calling convention of C, with the
-// same contract. A lent text, and a store, crosses as its address and its length, a flag as a byte.
+// same contract. It is written here again, since a function has its own clauses alone. A lent text, and a store, crosses as its address and
+// its length, a flag as a byte.
 #![tactic(auto)]
 
 mod clients;

@@ -2,10 +2,6 @@
 use Rattle.std.specs.Prelude.{ℕ, ◌+◌, ◌%◌, ◌^◌, Bool, cond}
 use Rattle.stores.specs.declared.tally.Tally.{Tally}
 
--- before the first case
-abbrev pub no_case : Tally
-no_case = record { right = 0; all = 0 }
-
 -- one more, in 64 bits
 abbrev pub one_more : ℕ → ℕ
 one_more n = (n + 1) % 2 ^ 64

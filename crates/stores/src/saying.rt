@@ -1,71 +1,57 @@
-// What is written of an open: the question, the answer, and the state of the store then.
-use rule::{Fault, refusal_number};
+// What is written of an open: the question, the answer, and the state of the store then. What cannot be written is lost; the run goes on.
+ghost use Rattle.std.specs.Prelude.{◌<◌, ◌^◌};
+
+use rule::refusal_number;
 use store::check::check;
 use store::opening::open;
 use text::front;
 
-// Writes words as they are. What cannot be written is lost; the run goes on.
-pub(crate) fn say(rt: &impl Print, words: &[u8]) {
-    let _ = rt.write_all(words);
+// A buffer whose first `whole` bytes are a store that is opened over and over. The first `KEPT` bytes are compared with those before an open.
+#[derive(Drop)]
+pub(crate) struct Bench<'a, P: Print, const KEPT: usize> {
+    pub(crate) rt: &'a P,
+    pub(crate) buffer: &'a mut [u8],
+    pub(crate) whole: usize,
 }
 
-// Writes words and, behind them, a number.
-pub(crate) fn say_number(rt: &impl Print, words: &[u8], n: u64) {
-    say(rt, words);
-    let _ = rt.print(n);
-}
-
-// Opens the lent bytes, and writes the counts, the two lengths and the answer.
-fn answer(rt: &impl Print, lent: &mut [u8], r: u64, f: u64, e: u64, n: u64, text: &[u8]) {
-    say_number(rt, b"open ", r);
-    say_number(rt, b" ", f);
-    say_number(rt, b" ", e);
-    say_number(rt, b" ", n);
-    say_number(rt, b" in ", lent.len() as u64);
-    say_number(rt, b" bytes, text of ", text.len() as u64);
-    match open(lent, r, f, e, n, text) {
-        Ok(()) => {
-            say(rt, b": done");
+impl<P: Print, const KEPT: usize> Bench<'_, P, KEPT> {
+    // Lends the first `lent` bytes to an open, and writes the state of the store then.
+    pub(crate) fn attempt(&mut self, lent: usize, counts: [u64; 4], text: &[u8])
+        requires { KEPT < 2 ^ 63 }
+    {
+        if self.buffer.len() < lent {
+            return;
         }
-        Err(fault) => {
-            say_number(rt, b": error ", refusal_number(fault.cause) as u64);
-            say_number(rt, b" line ", fault.line as u64);
-        }
+        let mut kept = [0; KEPT];
+        let buffer = &mut *self.buffer;
+        text::paste(front(buffer, KEPT), &mut kept, 0);
+        answer(self.rt, &mut buffer[..lent], counts, text);
+        self.say_state(&kept);
+    }
+
+    // Does the buffer begin as it was kept, and is the store as laid out?
+    fn say_state(&self, kept: &[u8]) {
+        let changed = if text::begins(self.buffer, kept) {
+            "unchanged"
+        } else {
+            "changed"
+        };
+        let laid = if check(front(self.buffer, self.whole)) {
+            "as laid out"
+        } else {
+            "not as laid out"
+        };
+        let _ = println!(self.rt; ", {changed}, {laid}");
     }
 }
 
-// Does the buffer begin as it was kept, and is the store as laid out?
-fn say_state(rt: &impl Print, buffer: &[u8], kept: &[u8], whole: usize) {
-    if text::begins(buffer, kept) {
-        say(rt, b", unchanged");
-    } else {
-        say(rt, b", changed");
-    }
-    if check(front(buffer, whole)) {
-        say(rt, b", as laid out\n");
-    } else {
-        say(rt, b", not as laid out\n");
-    }
-}
-
-// Lends the first `lent` bytes of a buffer to an open. The first `whole` of it are the store whose state is written then; `kept` has
-// room for the bytes that have to be as before.
-pub(crate) fn attempt(
-    rt: &impl Print,
-    buffer: &mut [u8],
-    kept: &mut [u8],
-    whole: usize,
-    lent: usize,
-    r: u64,
-    f: u64,
-    e: u64,
-    n: u64,
-    text: &[u8],
-) {
-    if buffer.len() < lent {
-        return;
-    }
-    text::paste(front(buffer, kept.len()), kept, 0);
-    answer(rt, &mut buffer[0..lent], r, f, e, n, text);
-    say_state(rt, buffer, kept, whole);
+// Opens the lent bytes for these counts, that of the rule bytes first, and writes the counts, the two lengths and the answer.
+fn answer(rt: &impl Print, lent: &mut [u8], counts: [u64; 4], text: &[u8]) {
+    let [bytes, filters, eqs, notes] = counts;
+    let (room, n) = (lent.len(), text.len());
+    let _ = print!(rt; "open {bytes} {filters} {eqs} {notes} in {room} bytes, text of {n}: ");
+    let _ = match open(lent, bytes, filters, eqs, notes, text) {
+        Ok(()) => print!(rt; "done"),
+        Err(fault) => print!(rt; "error {} line {}", refusal_number(fault.cause), fault.line),
+    };
 }

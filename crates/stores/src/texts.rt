@@ -1,183 +1,136 @@
 // Opens with texts that are refused, and with the longest that are not (document 01, Refusals by operation, Open).
-ghost use Rattle.std.specs.Prelude.{◌≡◌};
-ghost use Rattle.stores.specs.Texts as spec;
-
-use crate::saying::{attempt, say};
+use crate::saying::Bench;
 use text::front;
 
 // The store: R 4,096 and a row of each table.
 const LENGTH: usize = 4958;
 
+const COUNTS: [u64; 4] = [4096, 1, 1, 1];
+
 // A first line that is a rule: the faulty one is line 2.
 const FIRST: [u8; 15] = *b"[\"deny\",\"all\"]\n";
 
-// Fills the text with a line, over and over.
-pub fn repeat(text: &mut [u8], line: &[u8])
-    ensures { text.new ≡ spec.repeated text.old line.now }
-{
-    let n = line.len();
-    if n == 0 {
-        return;
-    }
-    let mut i = 0;
-    while i < text.len() {
-        text[i] = line[i % n];
-        i += 1;
-    }
-}
+// Second lines that are not JSON: a word; an empty line; a bracket that stays open; a rule with an LF in it; a byte 0 behind it.
+const NOT_JSON: [&[u8]; 5] = [
+    b"deny",
+    b"\n",
+    b"[\"deny\",\"all\"",
+    b"[\"deny\",\n\"all\"]",
+    b"[\"deny\",\"all\"]\x00",
+];
 
-// An open of a store of 4,096 bytes of rule text, for the first `n` bytes of a text.
-fn roomy(rt: &impl Print, store: &mut [u8; LENGTH], text: &[u8], n: usize) {
-    let mut kept = [0; LENGTH];
-    attempt(
-        rt,
-        store,
-        &mut kept,
-        LENGTH,
-        LENGTH,
-        4096,
-        1,
-        1,
-        1,
-        front(text, n),
-    );
-}
+// Second lines that are no rules: an object; access alone; another word; a control that is none; no valid filter; line 3 not JSON either.
+const NO_RULES: [&[u8]; 6] = [
+    b"{}",
+    b"[\"deny\"]",
+    b"[\"refuse\",\"all\"]",
+    b"[\"deny\",\"all\",\"read\"]",
+    b"[\"deny\",\"all\",\"all\",[\"a#\"]]",
+    b"[]\ndeny",
+];
 
 // An open for a text of two lines, of which the first is a rule.
-fn second(rt: &impl Print, store: &mut [u8; LENGTH], line: &[u8]) {
+fn second(bench: &mut Bench<'_, impl Print, LENGTH>, line: &[u8]) {
     let mut text = [b' '; 4096];
     text::paste(&FIRST, &mut text, 0);
     text::paste(line, &mut text, FIRST.len());
     if line.len() < 4000 {
-        roomy(rt, store, &text, FIRST.len() + line.len());
+        bench.attempt(LENGTH, COUNTS, front(&text, FIRST.len() + line.len()));
     }
 }
 
 // 256 lines, in which the text has exactly R bytes; a byte more than R; R a byte less; then one line more.
-fn many_lines(rt: &impl Print, store: &mut [u8; LENGTH]) {
-    let mut kept = [0; LENGTH];
-    let mut text = [b' '; 4112];
-    say(
-        rt,
-        b"256 lines of 16 bytes, all of R; a byte over R, which is line 257; R a byte less\n",
+fn many_lines(bench: &mut Bench<'_, impl Print, LENGTH>) {
+    let _ = println!(bench.rt;
+        "256 lines of 16 bytes, all of R; a byte over R, which is line 257; R a byte less"
     );
-    repeat(&mut text, b"[\"deny\", \"all\"]\n");
-    roomy(rt, store, &text, 4096);
-    roomy(rt, store, &text, 4097);
-    attempt(
-        rt,
-        store,
-        &mut kept,
-        LENGTH,
-        4957,
-        4095,
-        1,
-        1,
-        1,
-        front(&text, 4096),
-    );
-    say(
-        rt,
-        b"256 lines of 15 bytes; a byte more, which is line 257; 257 lines\n",
-    );
-    repeat(&mut text, b"[\"deny\",\"all\"]\n");
-    roomy(rt, store, &text, 3840);
-    roomy(rt, store, &text, 3841);
-    roomy(rt, store, &text, 3855);
+    let lines = [*b"[\"deny\", \"all\"]\n"; 257];
+    let text = lines.as_flattened();
+    bench.attempt(LENGTH, COUNTS, front(text, 4096));
+    bench.attempt(LENGTH, COUNTS, front(text, 4097));
+    bench.attempt(LENGTH - 1, [4095, 1, 1, 1], front(text, 4096));
+    let _ = println!(bench.rt; "256 lines of 15 bytes; a byte more, which is line 257; 257 lines");
+    let lines = [FIRST; 257];
+    for n in [3840, 3841, 3855] {
+        bench.attempt(LENGTH, COUNTS, front(lines.as_flattened(), n));
+    }
 }
 
 // A second line of 2,048 bytes, by blanks at its end, and of one more, also where it is not JSON.
-fn long_lines(rt: &impl Print, store: &mut [u8; LENGTH]) {
+fn long_lines(bench: &mut Bench<'_, impl Print, LENGTH>) {
     let mut line = [b' '; 2049];
-    say(
-        rt,
-        b"Line 2 of 2,048 bytes; of 2,049; of 2,049 and not JSON\n",
-    );
+    let _ = println!(bench.rt; "Line 2 of 2,048 bytes; of 2,049; of 2,049 and not JSON");
     text::paste(b"[\"deny\",\"all\"]", &mut line, 0);
-    second(rt, store, front(&line, 2048));
-    second(rt, store, &line);
+    second(bench, front(&line, 2048));
+    second(bench, &line);
     text::paste(b"{", &mut line, 0);
-    second(rt, store, &line);
+    second(bench, &line);
 }
 
 // A second line with a topic of 256 bytes, and of one more, also where it is no rule, or not JSON.
-fn long_strings(rt: &impl Print, store: &mut [u8; LENGTH]) {
+fn long_strings(bench: &mut Bench<'_, impl Print, LENGTH>) {
     let mut line = [b'a'; 283];
-    say(
-        rt,
-        b"Line 2 with a string of 256 bytes; of 257; of 257 and no rule; of 257 and not JSON\n",
+    let _ = println!(bench.rt;
+        "Line 2 with a string of 256 bytes; of 257; of 257 and no rule; of 257 and not JSON"
     );
     text::paste(b"[\"allow\",\"all\",\"all\",[\"", &mut line, 0);
     text::paste(b"\"]]", &mut line, 279);
-    second(rt, store, front(&line, 282));
+    second(bench, front(&line, 282));
     text::paste(b"a\"]]", &mut line, 279);
-    second(rt, store, &line);
+    second(bench, &line);
     text::paste(b"[\"b", &mut line, 0);
-    second(rt, store, &line);
+    second(bench, &line);
     text::paste(b"{", &mut line, 0);
-    second(rt, store, &line);
+    second(bench, &line);
 }
 
 // A second line with a member name of 256 bytes, and of one more.
-fn long_names(rt: &impl Print, store: &mut [u8; LENGTH]) {
+fn long_names(bench: &mut Bench<'_, impl Print, LENGTH>) {
     let mut line = [b'a'; 273];
-    say(rt, b"Line 2 with a member name of 256 bytes; of 257\n");
+    let _ = println!(bench.rt; "Line 2 with a member name of 256 bytes; of 257");
     text::paste(b"[\"allow\",{\"", &mut line, 0);
     text::paste(b"\":0}]", &mut line, 267);
-    second(rt, store, front(&line, 272));
+    second(bench, front(&line, 272));
     text::paste(b"a\":0}]", &mut line, 267);
-    second(rt, store, &line);
+    second(bench, &line);
 }
 
 // A second line with 65 topics, and with 64.
-fn many_topics(rt: &impl Print, store: &mut [u8; LENGTH]) {
-    let mut line = [0; 285];
-    say(rt, b"Line 2 with 65 topics; with 64\n");
-    repeat(&mut line, b"\"a\",");
-    text::paste(b"[\"deny\",\"all\",\"all\",[   ", &mut line, 0);
-    text::paste(b"]]", &mut line, 283);
-    second(rt, store, &line);
-    text::paste(b"]]", &mut line, 279);
-    second(rt, store, front(&line, 281));
-}
-
-// Second lines that are not JSON.
-fn not_json(rt: &impl Print, store: &mut [u8; LENGTH]) {
-    say(
-        rt,
-        b"Line 2 not JSON: a word; an empty line; a bracket that stays open; a rule with an LF in it; a byte 0 behind it\n",
-    );
-    second(rt, store, b"deny");
-    second(rt, store, b"\n");
-    second(rt, store, b"[\"deny\",\"all\"");
-    second(rt, store, b"[\"deny\",\n\"all\"]");
-    second(rt, store, b"[\"deny\",\"all\"]\x00");
-}
-
-// Second lines that are no rules, and at last one that is.
-fn no_rules(rt: &impl Print, store: &mut [u8; LENGTH]) {
-    say(
-        rt,
-        b"Line 2 no rule: an object; access alone; another word; a control that is none; no valid filter; line 3 not JSON either\n",
-    );
-    second(rt, store, b"{}");
-    second(rt, store, b"[\"deny\"]");
-    second(rt, store, b"[\"refuse\",\"all\"]");
-    second(rt, store, b"[\"deny\",\"all\",\"read\"]");
-    second(rt, store, b"[\"deny\",\"all\",\"all\",[\"a#\"]]");
-    second(rt, store, b"[]\ndeny");
-    say(rt, b"Two rules\n");
-    second(rt, store, b"[\"allow\",\"all\"]");
+fn many_topics(bench: &mut Bench<'_, impl Print, LENGTH>) {
+    let mut topics = [*b"\"a\","; 72];
+    let line = topics.as_flattened_mut();
+    let _ = println!(bench.rt; "Line 2 with 65 topics; with 64");
+    text::paste(b"[\"deny\",\"all\",\"all\",[   ", line, 0);
+    text::paste(b"]]", line, 283);
+    second(bench, front(line, 285));
+    text::paste(b"]]", line, 279);
+    second(bench, front(line, 281));
 }
 
 // All of them. The first open makes a store of bytes that are none; the later ones find one.
 pub(crate) fn texts(rt: &impl Print) {
-    let mut store = [255; LENGTH];
-    many_lines(rt, &mut store);
-    long_lines(rt, &mut store);
-    long_strings(rt, &mut store);
-    long_names(rt, &mut store);
-    many_topics(rt, &mut store);
-    not_json(rt, &mut store);
-    no_rules(rt, &mut store);
+    let mut bench: Bench<_, LENGTH> = Bench {
+        rt,
+        buffer: &mut [255; LENGTH],
+        whole: LENGTH,
+    };
+    many_lines(&mut bench);
+    long_lines(&mut bench);
+    long_strings(&mut bench);
+    long_names(&mut bench);
+    many_topics(&mut bench);
+    let _ = println!(rt;
+        "Line 2 not JSON: a word; an empty line; a bracket that stays open; a rule with an LF in it; a byte 0 behind it"
+    );
+    for line in NOT_JSON {
+        second(&mut bench, line);
+    }
+    let _ = println!(rt;
+        "Line 2 no rule: an object; access alone; another word; a control that is none; no valid filter; line 3 not JSON either"
+    );
+    for line in NO_RULES {
+        second(&mut bench, line);
+    }
+    let _ = println!(rt; "Two rules");
+    second(&mut bench, b"[\"allow\",\"all\"]");
 }

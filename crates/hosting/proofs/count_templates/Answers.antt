@@ -1,45 +1,39 @@
--- The loop's invariant: the templates counted and those of the lines from `at` on are all of each kind, and no more are counted than bytes
--- passed. The measure is what is left of the text. Assumes nothing.
-use native.Mathlib.Omega.{arith}
-use mathlib.Core.Path.{ap}
+-- The loop's invariant: of each kind, what is counted and what the lines left have is all, and no more are counted than bytes passed. Assumes nothing.
+use Rattle.std.proofs.Common.{◌≡◌, ap, arith}
 use mathlib.Core.Bool.{true, false}
 use Rattle.hosting.specs.Hosting.{line_templates}
-use Rattle.json_text.proofs.LineLaws.{line_within, next_within}
-use Rattle.events.proofs.TemplateWalk.{next_less}
 use Rattle.hosting.specs.declared.Templates.{Templates}
-use Rattle.hosting.proofs.HostingLaws.{on_first, onward_step, onward_end, both_counts, line_before}
+use Rattle.hosting.proofs.HostingLaws.{line_whole, counted_none, counted_fits, counted_line, counted_all, both_counts}
 use Rattle.hosting.proofs.count_templates.Goals as goal
 
-pub loop-at-init : goal.loop-at-init
-loop-at-init c =
-    (on_first false c.args.rules.now, on_first true c.args.rules.now, omega arith, omega arith, omega arith)
+pub loop-line-init : goal.loop-line-init
+loop-line-init c =
+    let whole : c.into_iter-line-iterator.result.rest.now ≡ c.args.rules.now = cc (c.into_iter-line-iterator.ensures.into_iter_gives, c.new-line-items.ensures) in
+    (tt, tt, rw whole (counted_none false c.args.rules.now), rw whole (counted_none true c.args.rules.now))
+
+pub line_templates-here-requires : goal.line_templates-here-requires
+line_templates-here-requires c =
+    line_whole _ c.in-Some.ensures.steps
 
 pub overflow_add-filters : goal.overflow_add-filters
 overflow_add-filters c =
-    omega (arith, c.line_templates-here.ensures.filters_in_bounds.0, c.loop-at.invariant.2, line_within c.args.rules.now c.loop-at.at c.loop-at.invariant.4)
+    omega (arith, counted_fits false c.args.rules.now _ _ _ c.in-Some.ensures.steps c.line_templates-here.ensures.in_bounds.0 c.loop-line.invariant.2)
 
 pub overflow_add-eqs : goal.overflow_add-eqs
 overflow_add-eqs c =
-    omega (arith, c.line_templates-here.ensures.filters_in_bounds.1, c.loop-at.invariant.3, line_within c.args.rules.now c.loop-at.at c.loop-at.invariant.4)
+    omega (arith, counted_fits true c.args.rules.now _ _ _ c.in-Some.ensures.steps c.line_templates-here.ensures.in_bounds.1 c.loop-line.invariant.3)
 
-pub loop-at-smaller : goal.loop-at-smaller
-loop-at-smaller c =
-    next_less c.args.rules.now c.loop-at.at c.loop-at-test.true c.next_line-at.ensures
-
-pub loop-at-preserved : goal.loop-at-preserved
+pub loop-line-preserved : goal.loop-line-preserved
 unfolding line_templates
-loop-at-preserved c =
-    let before = line_before c.args.rules.now c.loop-at.at c.loop-at-test.true in
-    let filters = ap (λ (t : Templates). t.filters) c.line_templates-here.ensures.value in
-    let eqs = ap (λ (t : Templates). t.eqs) c.line_templates-here.ensures.value in (
-      onward_step false c.args.rules.now c.loop-at.filters c.loop-at.at _ _ c.loop-at-test.true filters c.next_line-at.ensures c.loop-at.invariant.0,
-      onward_step true c.args.rules.now c.loop-at.eqs c.loop-at.at _ _ c.loop-at-test.true eqs c.next_line-at.ensures c.loop-at.invariant.1,
-      omega (arith, before, c.line_templates-here.ensures.filters_in_bounds.0, c.loop-at.invariant.2, c.next_line-at.ensures),
-      omega (arith, before, c.line_templates-here.ensures.filters_in_bounds.1, c.loop-at.invariant.3, c.next_line-at.ensures),
-      omega (arith, next_within c.args.rules.now c.loop-at.at, c.next_line-at.ensures),
+loop-line-preserved c =
+    let here = c.line_templates-here.ensures in (
+      tt,
+      tt,
+      counted_line false c.args.rules.now _ _ _ c.in-Some.ensures.steps here.in_bounds.0 (ap (λ (t : Templates). t.filters) here.value) c.loop-line.invariant.2,
+      counted_line true c.args.rules.now _ _ _ c.in-Some.ensures.steps here.in_bounds.1 (ap (λ (t : Templates). t.eqs) here.value) c.loop-line.invariant.3,
     )
 
 pub returns : goal.returns
 returns c =
-    both_counts c.args.rules.now (onward_end false c.args.rules.now c.loop-at.filters c.loop-at.at (omega arith) c.loop-at.invariant.0)
-    (onward_end true c.args.rules.now c.loop-at.eqs c.loop-at.at (omega arith) c.loop-at.invariant.1)
+    both_counts c.args.rules.now (counted_all false c.args.rules.now c.loop-line.filters c.in-None.ensures.steps.0 c.loop-line.invariant.2)
+    (counted_all true c.args.rules.now c.loop-line.eqs c.in-None.ensures.steps.0 c.loop-line.invariant.3)

@@ -1,11 +1,13 @@
--- The loop's invariant: of each kind, the templates counted and those of the topics from `next` on, of the turns left at the most, are all; and no
--- more are counted than turns taken. Assumes nothing.
-use Prim.Native.Nat.{◌-◌, ◌≤◌}
+-- The loop's invariant: of each kind, the templates counted and those of the topics left are all, and no more are counted than topics passed.
+-- Assumes nothing.
 use mathlib.Core.Bool.{true, false}
-use lib.ListN.{length}
-use Rattle.hosting.proofs.HostingLaws.{Left}
+use Rattle.json_text.specs.Access.{places_from}
+use Rattle.hosting.proofs.HostingLaws.{CountedIn}
 use Rattle.hosting.proofs.line_templates.Given as goal
 
-abbrev pub invariant-loop : goal.invariant-loop
-invariant-loop l =
-    Left false l.line l.filters (length l.line - l.counter) l.next × Left true l.line l.eqs (length l.line - l.counter) l.next × (l.filters ≤ l.counter) × (l.eqs ≤ l.counter) × (l.counter ≤ length l.line)
+abbrev pub invariant-loop-p : goal.invariant-loop-p
+invariant-loop-p l =
+    (goal.iterator-loop-p).can_next l.p-iterator
+    × (goal.iterator-loop-p).is_finite l.p-iterator
+    × CountedIn false l.line l.filters (places_from l.p-iterator.line.now l.p-iterator.next)
+    × CountedIn true l.line l.eqs (places_from l.p-iterator.line.now l.p-iterator.next)

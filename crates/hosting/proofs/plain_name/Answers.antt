@@ -16,10 +16,3 @@ returns-then-not-starts_with c =
     let dollar = sym (starts_dollar name) ∙ sym c.starts_with.ensures.value ∙ c.if-not-starts_with.true in
     all_from_yields_List (λ b. not (is_special b)) _ _ c.all.result c.all.ensures.ran (YieldsList-from_slice name c.iter.ensures.rest) (λ x b q k. search (rules, tests))
     ∙ special_all name ∙ sym (ap (λ (b : Bool). not b && no_special name) dollar)
-
-pub returns-else-not-starts_with : goal.returns-else-not-starts_with
-unfolding plain_name
-returns-else-not-starts_with c =
-    let name = c.args.name.now in
-    let dollar = sym (starts_dollar name) ∙ sym c.starts_with.ensures.value ∙ c.if-not-starts_with.false in
-    ap not c.if-not-starts_with.false ∙ sym (ap (λ (b : Bool). not b && no_special name) dollar)

@@ -1,8 +1,0 @@
--- The answer is that of the call, as a number. Assumes nothing.
-use mathlib.Core.Path.{ap, ◌∙◌}
-use Rattle.mqtt_acl.specs.Rules.{yes}
-use Rattle.mqtt_acl.proofs.mqtt_acl_tree_match.Goals as goal
-
-pub returns : goal.returns
-returns c =
-    c.yes.ensures ∙ ap yes c.tree_match.ensures
