@@ -13,72 +13,66 @@ mod telling;
 
 use acl::open;
 use rule::Fault;
-use running::EVENTS;
-use saying::say;
+use running::{Answered, EVENTS, Order};
+use saying::{say, whether};
 
 // R 256; F, E, N 8.
 const LENGTH: usize = 7040;
 
+// A store of these counts.
+type Store = [u8; LENGTH];
+
 // Two filters and an eq, filled for each client; every other topic is refused. Who is called bo connects as a superuser, and g1 may connect.
-const RULES: [u8; 181] =
-    *b"[\"allow\",\"all\",\"pubsub\",[\"bench/%c/#\",\"room/%u/%c\",{\"eq\":\"eq/%u\"}]]\n[\"deny\",\"all\",\"pubsub\"]\n[\"allow\",{\"user\":\"bo\",\"superuser\":true},\"connect\"]\n[\"allow\",{\"clientid\":\"g1\"},\"connect\"]\n";
+const RULES: &str =
+    "[\"allow\",\"all\",\"pubsub\",[\"bench/%c/#\",\"room/%u/%c\",{\"eq\":\"eq/%u\"}]]\n[\"deny\",\"all\",\"pubsub\"]\n[\"allow\",{\"user\":\"bo\",\"superuser\":true},\"connect\"]\n[\"allow\",{\"clientid\":\"g1\"},\"connect\"]\n";
 
-const LISTED: [u8; EVENTS] = [1, 2, 3, 4, 5, 6, 7, 8, 9, 10, 11, 12, 13, 14, 15];
+const LISTED: Order = [1, 2, 3, 4, 5, 6, 7, 8, 9, 10, 11, 12, 13, 14, 15];
 
-const REORDERED: [u8; EVENTS] = [4, 2, 5, 6, 1, 3, 7, 14, 9, 12, 10, 13, 15, 8, 11];
+const REORDERED: Order = [4, 2, 5, 6, 1, 3, 7, 14, 9, 12, 10, 13, 15, 8, 11];
 
 // Run before both orders, so that rows are there: those of 7 and 1 stay. With them 7 is done, and 6 is refused.
-const EARLIER: [u8; EVENTS] = [6, 13, 15, 2, 10, 9, 7, 1, 8, 1, 7, 3, 5, 12, 14];
+const EARLIER: Order = [6, 13, 15, 2, 10, 9, 7, 1, 8, 1, 7, 3, 5, 12, 14];
 
 // Opens a store for the rules. Says so where it is refused.
-fn opened(rt: &impl Print, store: &mut [u8; LENGTH]) {
-    match open(store, 256, 8, 8, 8, &RULES) {
+fn opened(rt: &impl Print, store: &mut Store) {
+    match open(store, 256, 8, 8, 8, RULES.as_bytes()) {
         Ok(()) => {}
-        Err(Fault { .. }) => {
-            say(rt, b"the rules are refused\n");
-        }
+        Err(Fault { .. }) => say(rt, "the rules are refused\n"),
     }
 }
 
-// Runs the events of an order, and writes what was recorded.
-fn ran(
-    rt: &impl Print,
-    store: &mut [u8; LENGTH],
-    order: &[u8; EVENTS],
-    records: &mut [u8; EVENTS],
-) {
-    running::run(store, order, records);
-    telling::tell_all(rt, order, records);
+// Runs the events of an order, and writes what was answered.
+fn ran(rt: &impl Print, store: &mut Store, order: &Order) -> [Answered; EVENTS] {
+    let run = running::run(store, order);
+    telling::tell(rt, &run);
+    run
 }
 
 // Runs both orders. Is the second one of those that demand 3 means, and are the same events refused?
-fn both(rt: &impl Print, first: &mut [u8; LENGTH], second: &mut [u8; LENGTH]) -> bool {
-    let mut records = [0; EVENTS];
-    let mut others = [0; EVENTS];
-    say(rt, b"The events in their order\n");
-    ran(rt, first, &LISTED, &mut records);
-    say(rt, b"The events in another order\n");
-    ran(rt, second, &REORDERED, &mut others);
+fn both(rt: &impl Print, first: &mut Store, second: &mut Store) -> bool {
+    say(rt, "The events in their order\n");
+    let run = ran(rt, first, &LISTED);
+    say(rt, "The events in another order\n");
+    let other = ran(rt, second, &REORDERED);
     let kept = running::keeps(&REORDERED);
-    saying::whether(
+    whether(
         rt,
         kept,
-        b"a reordering, in which events that share a client id or a session number keep their order",
+        "a reordering, in which events that share a client id or a session number keep their order",
     );
-    let refused = running::same_refused(&LISTED, &records, &REORDERED, &others);
-    saying::whether(rt, refused, b"the same events are refused");
+    let refused = running::same_refused(&run, &other);
+    whether(rt, refused, "the same events are refused");
     kept & refused
 }
 
 // Opens both stores and, where rows are wanted, runs the same events on both.
-fn prepared(rt: &impl Print, first: &mut [u8; LENGTH], second: &mut [u8; LENGTH], rows: bool) {
+fn prepared(rt: &impl Print, first: &mut Store, second: &mut Store, rows: bool) {
     opened(rt, first);
     opened(rt, second);
     if rows {
-        let mut records = [0; EVENTS];
-        say(rt, b"The stores hold rows already, of these events\n");
-        ran(rt, first, &EARLIER, &mut records);
-        running::run(second, &EARLIER, &mut records);
+        say(rt, "The stores hold rows already, of these events\n");
+        ran(rt, first, &EARLIER);
+        running::run(second, &EARLIER);
     }
 }
 
@@ -87,21 +81,21 @@ fn round(rt: &impl Print, rows: bool) -> bool {
     let mut first = [0; LENGTH];
     let mut second = [255; LENGTH];
     prepared(rt, &mut first, &mut second, rows);
-    let equal = comparing::same(&first, &second);
-    saying::whether(rt, equal, b"the stores are equal before the first event");
+    let equal = first == second;
+    whether(rt, equal, "the stores are equal before the first event");
     let meant = both(rt, &mut first, &mut second);
     let alike = comparing::alike(rt, &first, &second);
-    let answered = asking::ask_all(rt, &first, &second);
+    let answered = asking::ask_all(rt, [&first, &second]);
     equal & meant & alike & answered
 }
 
 fn main(rt: HostRuntime) {
-    say(&rt, &RULES);
+    say(&rt, RULES);
     let opened = round(&rt, false);
     let filled = round(&rt, true);
     if opened & filled {
-        say(&rt, b"the stores agree\n");
+        say(&rt, "the stores agree\n");
     } else {
-        say(&rt, b"the stores differ\n");
+        say(&rt, "the stores differ\n");
     }
 }
