@@ -1,6 +1,8 @@
 // Compares the two stores: the used rows of each table, whatever their sequence, and all other bytes.
+ghost use Rattle.std.specs.Prelude.{◌<◌};
+
 use crate::Store;
-use crate::saying::{say, whether};
+use crate::saying::whether;
 use store::Counts;
 use table::{number_at, present};
 
@@ -10,17 +12,16 @@ struct Table<'a> {
     bytes: &'a [u8],
     size: usize,
     used: usize,
+    ghost sized: { 0 < size },
 }
 
 impl<'a> Table<'a> {
     // Is each used row one of the other table's?
     fn among(&self, other: &Table) -> bool {
-        self.size != 0
-            && self
-                .bytes
-                .chunks_exact(self.size)
-                .take(self.used)
-                .all(|row| present(other.bytes, other.used, row))
+        self.bytes
+            .chunks_exact(self.size)
+            .take(self.used)
+            .all(|row| present(other.bytes, other.used, row))
     }
 
     // The bytes behind the used rows.
@@ -39,6 +40,7 @@ struct Place {
     to: usize,
     size: usize,
     header: usize,
+    ghost sized: { 0 < size },
 }
 
 impl Place {
@@ -90,7 +92,7 @@ fn places(counts: Counts) -> [Place; 3] {
 // Compares two stores of R 256 and F, E, N 8.
 pub(crate) fn alike(rt: &impl Print, a: &Store, b: &Store) -> bool {
     let Some(counts) = Counts::new(256, 8, 8, 8) else {
-        say(rt, "no such counts\n");
+        let _ = println!(rt; "no such counts");
         return false;
     };
     let mut rows = true;

@@ -95,13 +95,13 @@ impl<'a> Event<'a> {
     }
 
     // Do the two events share a client id or a session number?
-    #[tactic(auto, unfolding(acl::specs::Demand3::shares, acl::specs::Demand3::same_client))]
+    #[tactic(auto, unfolding(acl::specs::Demand3::shares, acl::specs::Demand3::same_client), using(text::proofs::Laws::same_pointwise))]
     pub fn shares(&self, other: &Event) -> bool
         ensures { result ≡ demand.shares (spec.meant self.now) (spec.meant other.now) }
     {
         self.session() == other.session()
             || match (self.client(), other.client()) {
-                (Some(id), Some(other)) => text::same(id.as_bytes(), other.as_bytes()),
+                (Some(id), Some(other)) => id == other,
                 _ => false,
             }
     }

@@ -12,9 +12,8 @@ mod saying;
 mod telling;
 
 use acl::open;
-use rule::Fault;
 use running::{Answered, EVENTS, Order};
-use saying::{say, whether};
+use saying::whether;
 
 // R 256; F, E, N 8.
 const LENGTH: usize = 7040;
@@ -23,8 +22,11 @@ const LENGTH: usize = 7040;
 type Store = [u8; LENGTH];
 
 // Two filters and an eq, filled for each client; every other topic is refused. Who is called bo connects as a superuser, and g1 may connect.
-const RULES: &str =
-    "[\"allow\",\"all\",\"pubsub\",[\"bench/%c/#\",\"room/%u/%c\",{\"eq\":\"eq/%u\"}]]\n[\"deny\",\"all\",\"pubsub\"]\n[\"allow\",{\"user\":\"bo\",\"superuser\":true},\"connect\"]\n[\"allow\",{\"clientid\":\"g1\"},\"connect\"]\n";
+const RULES: &str = r#"["allow","all","pubsub",["bench/%c/#","room/%u/%c",{"eq":"eq/%u"}]]
+["deny","all","pubsub"]
+["allow",{"user":"bo","superuser":true},"connect"]
+["allow",{"clientid":"g1"},"connect"]
+"#;
 
 const LISTED: Order = [1, 2, 3, 4, 5, 6, 7, 8, 9, 10, 11, 12, 13, 14, 15];
 
@@ -35,9 +37,8 @@ const EARLIER: Order = [6, 13, 15, 2, 10, 9, 7, 1, 8, 1, 7, 3, 5, 12, 14];
 
 // Opens a store for the rules. Says so where it is refused.
 fn opened(rt: &impl Print, store: &mut Store) {
-    match open(store, 256, 8, 8, 8, RULES.as_bytes()) {
-        Ok(()) => {}
-        Err(Fault { .. }) => say(rt, "the rules are refused\n"),
+    if open(store, 256, 8, 8, 8, RULES.as_bytes()).is_err() {
+        let _ = println!(rt; "the rules are refused");
     }
 }
 
@@ -50,9 +51,9 @@ fn ran(rt: &impl Print, store: &mut Store, order: &Order) -> [Answered; EVENTS] 
 
 // Runs both orders. Is the second one of those that demand 3 means, and are the same events refused?
 fn both(rt: &impl Print, first: &mut Store, second: &mut Store) -> bool {
-    say(rt, "The events in their order\n");
+    let _ = println!(rt; "The events in their order");
     let run = ran(rt, first, &LISTED);
-    say(rt, "The events in another order\n");
+    let _ = println!(rt; "The events in another order");
     let other = ran(rt, second, &REORDERED);
     let kept = running::keeps(&REORDERED);
     whether(
@@ -65,22 +66,22 @@ fn both(rt: &impl Print, first: &mut Store, second: &mut Store) -> bool {
     kept & refused
 }
 
-// Opens both stores and, where rows are wanted, runs the same events on both.
-fn prepared(rt: &impl Print, first: &mut Store, second: &mut Store, rows: bool) {
+// Opens both stores and, where earlier events are given, runs them on both.
+fn prepared(rt: &impl Print, first: &mut Store, second: &mut Store, earlier: Option<&Order>) {
     opened(rt, first);
     opened(rt, second);
-    if rows {
-        say(rt, "The stores hold rows already, of these events\n");
-        ran(rt, first, &EARLIER);
-        running::run(second, &EARLIER);
+    if let Some(order) = earlier {
+        let _ = println!(rt; "The stores hold rows already, of these events");
+        ran(rt, first, order);
+        running::run(second, order);
     }
 }
 
 // Do two stores of the rules agree after the two orders, whatever they held before they were opened?
-fn round(rt: &impl Print, rows: bool) -> bool {
+fn round(rt: &impl Print, earlier: Option<&Order>) -> bool {
     let mut first = [0; LENGTH];
     let mut second = [255; LENGTH];
-    prepared(rt, &mut first, &mut second, rows);
+    prepared(rt, &mut first, &mut second, earlier);
     let equal = first == second;
     whether(rt, equal, "the stores are equal before the first event");
     let meant = both(rt, &mut first, &mut second);
@@ -90,12 +91,9 @@ fn round(rt: &impl Print, rows: bool) -> bool {
 }
 
 fn main(rt: HostRuntime) {
-    say(&rt, RULES);
-    let opened = round(&rt, false);
-    let filled = round(&rt, true);
-    if opened & filled {
-        say(&rt, "the stores agree\n");
-    } else {
-        say(&rt, "the stores differ\n");
-    }
+    let _ = print!(rt; "{RULES}");
+    let opened = round(&rt, None);
+    let filled = round(&rt, Some(&EARLIER));
+    let verdict = if opened & filled { "agree" } else { "differ" };
+    let _ = println!(rt; "the stores {verdict}");
 }

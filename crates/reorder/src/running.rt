@@ -35,7 +35,7 @@ fn leads(n: u8, order: &[u8], at: usize) -> bool
 fn fits(n: u8, order: &[u8], at: usize) -> bool
     ensures { result ≡ spec.fits n (drop at order.now) }
 {
-    n != 0 && n as usize <= EVENTS && leads(n, order, at)
+    (1..=EVENTS).contains(&(n as usize)) && leads(n, order, at)
 }
 
 // Is it an order of events, none twice, in which those that share a client id or a session number keep their order?
