@@ -1,12 +1,12 @@
 -- What two runs of the events have in common, and which orders demand 3 means.
-use Rattle.std.specs.Prelude.{ℕ, ◌+◌, Bool, ◌&&◌, not, List, [], ◌∷◌, map, find, drop, eqb, leb, ltb, is_ok, Option, Result, Ok}
+use Rattle.std.specs.Prelude.{ℕ, ◌+◌, Bool, ◌&&◌, not, List, [], ◌∷◌, map, find, drop, eqb, leb, ltb, is_ok, is_err, Option, Result, Ok}
 use Rattle.std.specs.Option.{option_map_or}
 use Rattle.std.specs.Bool.{beq}
 use Rattle.std.specs.List.{list_all, enumerate_from}
 use Rattle.rule.specs.declared.Refusal.{Refusal}
 use Rattle.store.specs.View.{view}
 use Rattle.events.specs.Event as happens
-use Rattle.acl.specs.Demand3.{shares}
+use Rattle.acl.specs.Demand3.{shares, Outcome}
 use Rattle.reorder.specs.Listing.{listed}
 use Rattle.reorder.specs.declared.running.Answered.{Answered}
 
@@ -18,6 +18,18 @@ events_of order = map listed order
 unfoldable pub causes : List happens.Event → List ℕ → List (Option ℕ)
 causes [] s = []
 causes (e ∷ es) s = happens.cause e (view s) ∷ causes es (happens.after e s)
+
+-- the numbers of the events of a run
+abbrev pub numbers : List Answered → List ℕ
+numbers = map (λ (a : Answered). a.number)
+
+-- the number that each answer of a run says, none where the event is done
+abbrev pub told : List Answered → List (Option ℕ)
+told = map (λ (a : Answered). happens.says a.answer)
+
+-- the events of a run, and whether each was refused
+abbrev pub outcomes_of : List Answered → List Outcome
+outcomes_of = map (λ (a : Answered). (listed a.number, is_err a.answer))
 
 -- what is answered, in a run, to the event of a number; done where there is none
 abbrev pub answer_to : ℕ → List Answered → Result (Unit {0}) Refusal

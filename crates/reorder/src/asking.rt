@@ -5,8 +5,9 @@ use acl::{ConnectAnswer, PublishAnswer, SubscribeAnswer};
 use rule::agreement::Client;
 use rule::{Refusal, refusal_number};
 
-// An answer in a word and a number: that of a rule or of a refusal, or the answer that is kept.
+// What a store answers to a question.
 trait Answer {
+    // A word and a number: that of a rule or of a refusal, or the answer that is kept.
     fn words(&self) -> (&'static str, u64);
 }
 
@@ -52,7 +53,7 @@ impl<A: Answer> Answer for Result<A, Refusal> {
 }
 
 // Writes two answers side by side. Are they the same?
-fn side_by_side<A: Answer + PartialEq + Drop>(rt: &impl Print, [one, other]: [A; 2]) -> bool {
+fn side_by_side<A: Answer + PartialEq + Drop>(rt: &impl Print, one: A, other: A) -> bool {
     let same = one == other;
     let (word, number) = one.words();
     let (word_too, number_too) = other.words();
@@ -74,6 +75,7 @@ fn client<'a>(id: &'a str, name: Option<&'a str>, protocol: Option<u8>) -> Clien
 
 // Connects by each client. Are all answers the same?
 fn connects(rt: &impl Print, stores: [&Store; 2]) -> bool {
+    let [a, b] = stores;
     let mut same = true;
     for (id, name) in [
         ("g1", "ann"),
@@ -84,7 +86,7 @@ fn connects(rt: &impl Print, stores: [&Store; 2]) -> bool {
     ] {
         let _ = print!(rt; "connect {id} {name}");
         let client = client(id, Some(name), Some(4));
-        same &= side_by_side(rt, stores.map(|store| acl::connect(store, 0, &client)));
+        same &= side_by_side(rt, acl::connect(a, 0, &client), acl::connect(b, 0, &client));
     }
     same
 }
@@ -97,10 +99,30 @@ fn question(rt: &impl Print, word: &str, id: &str, name: Option<&str>, topic: &s
     };
 }
 
+// Asks both stores a question on a topic for each of these clients. Are all answers the same?
+fn asked<A: Answer + PartialEq + Drop, F: Fn(&Store, &Client, &[u8]) -> A>(
+    rt: &impl Print,
+    stores: [&Store; 2],
+    word: &str,
+    questions: &[(&str, Option<&str>, &str)],
+    ask: F,
+) -> bool
+    requires { F.IsAlwaysCallable ask }
+{
+    let [a, b] = stores;
+    let mut same = true;
+    for &(id, name, topic) in questions {
+        question(rt, word, id, name, topic);
+        let client = client(id, name, None);
+        let topic = topic.as_bytes();
+        same &= side_by_side(rt, ask(a, &client, topic), ask(b, &client, topic));
+    }
+    same
+}
+
 // Publishes by each client, with the disconnect flag. Are all answers the same?
 fn publishes(rt: &impl Print, stores: [&Store; 2]) -> bool {
-    let mut same = true;
-    for (id, name, topic) in [
+    let questions = [
         ("g1", Some("bo"), "bench/g1/step"),
         ("g1", Some("bo"), "room/bo/g1"),
         ("g1", Some("ann"), "room/ann/g1"),
@@ -112,38 +134,29 @@ fn publishes(rt: &impl Print, stores: [&Store; 2]) -> bool {
         ("g5", Some("cy"), "bench/g5/step"),
         ("g5", Some("cy"), "eq/cy"),
         (LONG, Some("bo"), "eq/bo"),
-    ] {
-        question(rt, "publish", id, name, topic);
-        let client = client(id, name, None);
-        let topic = topic.as_bytes();
-        same &= side_by_side(
-            rt,
-            stores.map(|store| acl::publish(store, 0, &client, topic, true)),
-        );
-    }
-    same
+    ];
+    asked(rt, stores, "publish", &questions, |store, client, topic| {
+        acl::publish(store, 0, client, topic, true)
+    })
 }
 
 // Subscribes by each client with QoS 1. Are all answers the same?
 fn subscribes(rt: &impl Print, stores: [&Store; 2]) -> bool {
-    let mut same = true;
-    for (id, name, topic) in [
+    let questions = [
         ("g1", Some("bo"), "bench/g1/#"),
         ("g2", Some("bo"), "bench/g2/#"),
         ("g3", None, "room//g3"),
         ("g4", Some("bo"), "bench/g4/#"),
         ("g4", Some("bo"), "eq/ann"),
         ("g5", Some("cy"), "bench/#"),
-    ] {
-        question(rt, "subscribe", id, name, topic);
-        let client = client(id, name, None);
-        let topic = topic.as_bytes();
-        same &= side_by_side(
-            rt,
-            stores.map(|store| acl::subscribe(store, 0, &client, topic, 1)),
-        );
-    }
-    same
+    ];
+    asked(
+        rt,
+        stores,
+        "subscribe",
+        &questions,
+        |store, client, topic| { acl::subscribe(store, 0, client, topic, 1) },
+    )
 }
 
 // All questions. Are all answers the same?

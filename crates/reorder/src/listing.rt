@@ -108,6 +108,7 @@ impl<'a> Event<'a> {
 }
 
 impl fmt::Display for Event<'_> {
+    // What happened, the session, the id and the name.
     fn fmt<W: fmt::Write>(&self, f: &mut fmt::Formatter<W>) -> fmt::Result {
         match self {
             Event::Connected(session, id, Some(name)) => write!(

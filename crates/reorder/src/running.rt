@@ -1,9 +1,8 @@
 // Runs of the events in an order, and what two of them have in common.
-ghost use Rattle.std.specs.Prelude.{◌≡◌, map, find, drop, ◌==◌};
+ghost use Rattle.std.specs.Prelude.{◌≡◌, find, drop, ◌==◌};
 ghost use Rattle.std.specs.List.{list_all};
 ghost use Rattle.std.specs.Option.{option_copied};
 ghost use Rattle.acl.specs.Demand3 as demand;
-ghost use Rattle.events.specs.Event as event;
 ghost use Rattle.reorder.specs.declared.running.Answered.{Answered};
 ghost use Rattle.reorder.specs.Running as spec;
 
@@ -57,8 +56,9 @@ pub struct Answered {
 
 // Hands the events of this order to the store, each getting it as the one before left it.
 pub fn run(store: &mut Store, order: &Order) -> [Answered; EVENTS]
-    ensures numbers { map (λ (a : Answered). a.number) result ≡ order.now }
-    ensures answers { map (λ (a : Answered). event.says a.answer) result ≡ spec.causes (spec.events_of order.now) store.old }
+    ensures numbers { spec.numbers result ≡ order.now }
+    ensures answers { spec.told result ≡ spec.causes (spec.events_of order.now) store.old }
+    ensures outcomes { spec.outcomes_of result ≡ demand.outcomes (spec.events_of order.now) store.old }
     ensures store_after { store.new ≡ demand.run (spec.events_of order.now) store.old }
 {
     let mut run = order.map(|number| Answered {
