@@ -13,6 +13,7 @@ use Rattle.reorder.specs.declared.running.Answered.{Answered}
 use Rattle.reorder.specs.Listing.{listed}
 use Rattle.reorder.specs.Running.{events_of, causes, numbers, told, outcomes_of}
 
+-- an event before it is handed to the store: what a place of a list is where the list has none
 abbrev pub unanswered : Answered
 unanswered = record { number = 0; answer = Ok (tt {0}) }
 
@@ -81,11 +82,13 @@ module _ {order before store : List ℕ} {answered : List Answered} {i : ℕ} (w
             ∙ (ap (λ (l : List Answered). told l ++ causes (events_of (drop i order)) store) (sym all) ∙ w.answers))),
       )
 
+-- an answer is an error just where it says a cause
 is_refused : (r : Result (Unit {0}) Refusal) → is_err r ≡ happens.given (happens.says r)
 unfolding happens.says
 is_refused (Ok tt) = refl
 is_refused (Err cause) = refl
 
+-- the same as `outcomes_run` below, of the run's own numbers
 outcomes_told :
     (answered : List Answered) (s : List ℕ) →
     told answered ≡ causes (events_of (numbers answered)) s →

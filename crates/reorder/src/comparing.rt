@@ -96,6 +96,7 @@ pub(crate) fn alike(rt: &impl Print, a: &Store, b: &Store) -> bool {
         return false;
     };
     let mut rows = true;
+    // Before the tables stand the header and the rules.
     let mut others = a.get(..counts.filters_at()) == b.get(..counts.filters_at());
     for place in places(counts) {
         let one = place.table(a);

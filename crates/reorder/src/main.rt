@@ -2,6 +2,7 @@
 // document 01, Events): first on stores as they were opened, then on stores that hold rows. The runs are `run` of the theorem
 // (crates/acl/specs/Demand3.antt) by contract. What it writes is compared with the file `stdout`: the recorded answers of the events, the
 // used rows, all other bytes, and each answer to connect, publish and subscribe, side by side.
+// What cannot be written is lost; the run goes on.
 #![tactic(auto)]
 
 mod asking;

@@ -10,6 +10,7 @@ use crate::Store;
 use crate::listing::listed;
 use rule::Refusal;
 
+// So many events are listed.
 pub const EVENTS: usize = 15;
 
 // The numbers of the events, in the order in which they come.
@@ -55,6 +56,7 @@ pub struct Answered {
 }
 
 // Hands the events of this order to the store, each getting it as the one before left it.
+#[tactic(auto, using(crate::proofs::Runs::running_end, crate::proofs::Runs::outcomes_run))]
 pub fn run(store: &mut Store, order: &Order) -> [Answered; EVENTS]
     ensures numbers { spec.numbers result ≡ order.now }
     ensures answers { spec.told result ≡ spec.causes (spec.events_of order.now) store.old }

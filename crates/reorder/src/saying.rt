@@ -1,4 +1,4 @@
-// Lines on standard output. What cannot be written is lost; the run goes on.
+// A line on standard output.
 
 // Writes a line: what is claimed, and whether it is so.
 pub(crate) fn whether(rt: &impl Print, so: bool, claim: &str) {

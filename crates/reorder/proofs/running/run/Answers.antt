@@ -2,7 +2,7 @@
 use Rattle.std.proofs.Common.{◌<◌, arith, rules, tests, refl, sym, ◌∙◌}
 use Rattle.std.proofs.lemmas.List.{same_lists, get_or-map, length-map}
 use Rattle.reorder.specs.declared.running.Answered.{Answered}
-use Rattle.reorder.proofs.Runs.{unanswered, running_none, running_more, running_end, outcomes_run}
+use Rattle.reorder.proofs.Runs.{unanswered, running_none, running_more}
 use Rattle.reorder.proofs.running.run.Goals as goal
 
 pub loop-event-init : goal.loop-event-init
@@ -16,16 +16,3 @@ loop-event-init c =
 pub loop-event-preserved : goal.loop-event-preserved
 loop-event-preserved c =
     running_more c.loop-event.invariant _ (omega (arith, c.told-order)) refl c.listed.ensures c.apply-event.ensures.store_after c.apply-event.ensures.value
-
-pub returns-clause-numbers : goal.returns-clause-numbers
-returns-clause-numbers c = c.loop-event.invariant.numbered
-
-pub returns-clause-answers : goal.returns-clause-answers
-returns-clause-answers c = (running_end c.loop-event.invariant (omega (arith, c.told-order))).1
-
-pub returns-clause-store_after : goal.returns-clause-store_after
-returns-clause-store_after c = (running_end c.loop-event.invariant (omega (arith, c.told-order))).0
-
-pub returns-clause-outcomes : goal.returns-clause-outcomes
-returns-clause-outcomes c =
-    outcomes_run _ _ c.loop-event.invariant.numbered (running_end c.loop-event.invariant (omega (arith, c.told-order))).1
