@@ -2,126 +2,122 @@
 ghost use Rattle.std.specs.Prelude.{◌≡◌};
 ghost use Rattle.store.specs.View.{view};
 ghost use Rattle.events.specs.Event as event;
+ghost use Rattle.acl.specs.Demand3 as demand;
 ghost use Rattle.reorder.specs.Listing as spec;
 
-use crate::LENGTH;
-use rule::{Refusal, refusal_number};
+use crate::Store;
+use rule::Refusal;
+use std::fmt;
 
-// A session; the client by the digit of its id, `x` for the id that is too long; and the initial of the user name, `-` for none.
-#[derive(Clone, Copy, Debug, PartialEq, Eq)]
-pub enum Event {
-    Connected(u64, u8, u8),
-    Disconnected(u64, u8),
+// A byte more than document 01 allows for a client id.
+pub const LONG: &str = "xxxxxxxxxxxxxxxxxxxxxxxxxxxxxxxxxxxxxxxxxxxxxxxxxxxxxxxxxxxxxxxxx";
+
+// A session; the client's id; and his user name, if he has one.
+#[derive(Clone, Copy, Debug)]
+pub enum Event<'a> {
+    Connected(u64, &'a str, Option<&'a str>),
+    Disconnected(u64, &'a str),
     Ended(u64),
 }
 
-// A byte more than document 01 allows for a client id.
-pub const LONG: usize = 65;
-
 // The event of a number.
-pub fn listed(n: u8) -> Event
-    ensures { result ≡ spec.listed n }
+#[tactic(auto, unfolding(crate::specs::Listing::listed, crate::specs::Listing::meant, crate::specs::Listing::long))]
+pub fn listed(n: u8) -> Event<'static>
+    ensures { spec.meant result ≡ spec.listed n }
 {
     match n {
-        1 => Event::Connected(1, b'1', b'a'),
-        2 => Event::Connected(2, b'2', b'b'),
-        3 => Event::Connected(256, b'1', b'a'),
-        4 => Event::Connected(3, b'3', b'-'),
-        5 => Event::Connected(4, b'x', b'b'),
-        6 => Event::Connected(4, b'4', b'b'),
-        7 => Event::Connected(5, b'5', b'c'),
-        8 => Event::Disconnected(1, b'1'),
+        1 => Event::Connected(1, "g1", Some("ann")),
+        2 => Event::Connected(2, "g2", Some("bo")),
+        3 => Event::Connected(256, "g1", Some("ann")),
+        4 => Event::Connected(3, "g3", None),
+        5 => Event::Connected(4, LONG, Some("bo")),
+        6 => Event::Connected(4, "g4", Some("bo")),
+        7 => Event::Connected(5, "g5", Some("cy")),
+        8 => Event::Disconnected(1, "g1"),
         9 => Event::Ended(2),
-        10 => Event::Disconnected(2, b'2'),
-        11 => Event::Connected(1, b'1', b'b'),
+        10 => Event::Disconnected(2, "g2"),
+        11 => Event::Connected(1, "g1", Some("bo")),
         12 => Event::Ended(256),
-        13 => Event::Disconnected(4, b'4'),
-        14 => Event::Disconnected(3, b'x'),
+        13 => Event::Disconnected(4, "g4"),
+        14 => Event::Disconnected(3, LONG),
         _ => Event::Ended(4),
     }
 }
 
-// The session of an event.
-pub fn session(e: Event) -> u64
-    ensures { result ≡ spec.session e }
-{
-    match e {
-        Event::Connected(s, _, _) => s,
-        Event::Disconnected(s, _) => s,
-        Event::Ended(s) => s,
+impl<'a> Event<'a> {
+    ghost use Rattle.std.specs.Option.{option_copied};
+    ghost use Rattle.store.specs.View.{view};
+    ghost use Rattle.events.specs.Event as event;
+    ghost use Rattle.acl.specs.Demand3 as demand;
+    ghost use Rattle.reorder.specs.Listing as spec;
+
+    // Hands the event to a store.
+    #[tactic(auto, unfolding(crate::specs::Listing::meant))]
+    pub fn apply(&self, store: &mut Store) -> Result<(), Refusal>
+        ensures value { event.says result ≡ event.cause (spec.meant self.now) (view store.old) }
+        ensures store_after { store.new ≡ event.after (spec.meant self.now) store.old }
+    {
+        match *self {
+            Event::Connected(session, id, name) => {
+                acl::connected(
+                    store,
+                    session,
+                    id.as_bytes(),
+                    name.map(|name| name.as_bytes()),
+                )
+            }
+            Event::Disconnected(session, id) => acl::disconnected(store, session, id.as_bytes()),
+            Event::Ended(session) => acl::ended(store, session),
+        }
+    }
+
+    // The event's session.
+    #[tactic(auto, unfolding(acl::specs::Demand3::session, crate::specs::Listing::meant))]
+    fn session(&self) -> u64
+        ensures { result ≡ demand.session (spec.meant self.now) }
+    {
+        match *self {
+            Event::Connected(session, _, _)
+            | Event::Disconnected(session, _)
+            | Event::Ended(session) => session,
+        }
+    }
+
+    // The client's id, if the event has one.
+    #[tactic(auto, unfolding(acl::specs::Demand3::client, crate::specs::Listing::meant))]
+    fn client(&self) -> Option<&'a str>
+        ensures { option_copied result ≡ demand.client (spec.meant self.now) }
+    {
+        match *self {
+            Event::Connected(_, id, _) | Event::Disconnected(_, id) => Some(id),
+            Event::Ended(_) => None,
+        }
+    }
+
+    // Do the two events share a client id or a session number?
+    #[tactic(auto, unfolding(acl::specs::Demand3::shares, acl::specs::Demand3::same_client), using(text::proofs::Laws::same_pointwise))]
+    pub fn shares(&self, other: &Event) -> bool
+        ensures { result ≡ demand.shares (spec.meant self.now) (spec.meant other.now) }
+    {
+        self.session() == other.session()
+            || match (self.client(), other.client()) {
+                (Some(id), Some(other)) => id == other,
+                _ => false,
+            }
     }
 }
 
-// The client of an event, 0 where it has none.
-pub fn client(e: Event) -> u8
-    ensures { result ≡ spec.client e }
-{
-    match e {
-        Event::Connected(_, c, _) => c,
-        Event::Disconnected(_, c) => c,
-        Event::Ended(_) => 0,
-    }
-}
-
-// What is recorded of an answer: 0 for done, else the number of the refusal.
-fn number_of(answer: Result<(), Refusal>) -> u8
-    ensures { result ≡ spec.recorded (event.says answer) }
-{
-    match answer {
-        Ok(()) => 0,
-        Err(cause) => refusal_number(cause),
-    }
-}
-
-// A client connects, under the name of this initial.
-#[tactic(auto, unfolding(crate::specs::Listing::name_of))]
-fn named(store: &mut [u8; LENGTH], s: u64, id: &[u8], name: u8) -> Result<(), Refusal>
-    ensures result_value { event.says result ≡ event.cause (event.connected s id.now (spec.name_of name)) (view store.old) }
-    ensures store_after { store.new ≡ event.after (event.connected s id.now (spec.name_of name)) store.old }
-{
-    match name {
-        b'a' => acl::connected(store, s, id, Some(b"ann")),
-        b'b' => acl::connected(store, s, id, Some(b"bo")),
-        b'c' => acl::connected(store, s, id, Some(b"cy")),
-        _ => acl::connected(store, s, id, None),
-    }
-}
-
-// A client connects.
-fn connects(store: &mut [u8; LENGTH], s: u64, client: u8, name: u8) -> Result<(), Refusal>
-    ensures result_value { event.says result ≡ event.cause (event.connected s (spec.id_of client) (spec.name_of name)) (view store.old) }
-    ensures store_after { store.new ≡ event.after (event.connected s (spec.id_of client) (spec.name_of name)) store.old }
-{
-    if client == b'x' {
-        let long = [b'x'; LONG];
-        return named(store, s, &long, name);
-    }
-    let id = [b'g', client];
-    named(store, s, &id, name)
-}
-
-// A client disconnects.
-fn disconnects(store: &mut [u8; LENGTH], s: u64, client: u8) -> Result<(), Refusal>
-    ensures result_value { event.says result ≡ event.cause (event.disconnected s (spec.id_of client)) (view store.old) }
-    ensures store_after { store.new ≡ event.after (event.disconnected s (spec.id_of client)) store.old }
-{
-    if client == b'x' {
-        let long = [b'x'; LONG];
-        return acl::disconnected(store, s, &long);
-    }
-    let id = [b'g', client];
-    acl::disconnected(store, s, &id)
-}
-
-// Hands the event of a number to the store, and answers what is recorded of it.
-pub fn apply(store: &mut [u8; LENGTH], n: u8) -> u8
-    ensures value { result ≡ spec.recorded (event.cause (spec.meant (spec.listed n)) (view store.old)) }
-    ensures store_after { store.new ≡ event.after (spec.meant (spec.listed n)) store.old }
-{
-    let e = listed(n);
-    match e {
-        Event::Connected(s, client, name) => number_of(connects(store, s, client, name)),
-        Event::Disconnected(s, client) => number_of(disconnects(store, s, client)),
-        Event::Ended(s) => number_of(acl::ended(store, s)),
+impl fmt::Display for Event<'_> {
+    // What happened, the session, the id and the name.
+    fn fmt<W: fmt::Write>(&self, f: &mut fmt::Formatter<W>) -> fmt::Result {
+        match self {
+            Event::Connected(session, id, Some(name)) => write!(
+                f,
+                "connected {session} {id} {name}"
+            ),
+            Event::Connected(session, id, None) => write!(f, "connected {session} {id}"),
+            Event::Disconnected(session, id) => write!(f, "disconnected {session} {id}"),
+            Event::Ended(session) => write!(f, "ended {session}"),
+        }
     }
 }

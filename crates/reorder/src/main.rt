@@ -2,6 +2,7 @@
 // document 01, Events): first on stores as they were opened, then on stores that hold rows. The runs are `run` of the theorem
 // (crates/acl/specs/Demand3.antt) by contract. What it writes is compared with the file `stdout`: the recorded answers of the events, the
 // used rows, all other bytes, and each answer to connect, publish and subscribe, side by side.
+// What cannot be written is lost; the run goes on.
 #![tactic(auto)]
 
 mod asking;
@@ -12,96 +13,88 @@ mod saying;
 mod telling;
 
 use acl::open;
-use rule::Fault;
-use running::EVENTS;
-use saying::say;
+use running::{Answered, EVENTS, Order};
+use saying::whether;
 
 // R 256; F, E, N 8.
 const LENGTH: usize = 7040;
 
+// A store of these counts.
+type Store = [u8; LENGTH];
+
 // Two filters and an eq, filled for each client; every other topic is refused. Who is called bo connects as a superuser, and g1 may connect.
-const RULES: [u8; 181] =
-    *b"[\"allow\",\"all\",\"pubsub\",[\"bench/%c/#\",\"room/%u/%c\",{\"eq\":\"eq/%u\"}]]\n[\"deny\",\"all\",\"pubsub\"]\n[\"allow\",{\"user\":\"bo\",\"superuser\":true},\"connect\"]\n[\"allow\",{\"clientid\":\"g1\"},\"connect\"]\n";
+const RULES: &str = r#"["allow","all","pubsub",["bench/%c/#","room/%u/%c",{"eq":"eq/%u"}]]
+["deny","all","pubsub"]
+["allow",{"user":"bo","superuser":true},"connect"]
+["allow",{"clientid":"g1"},"connect"]
+"#;
 
-const LISTED: [u8; EVENTS] = [1, 2, 3, 4, 5, 6, 7, 8, 9, 10, 11, 12, 13, 14, 15];
+const LISTED: Order = [1, 2, 3, 4, 5, 6, 7, 8, 9, 10, 11, 12, 13, 14, 15];
 
-const REORDERED: [u8; EVENTS] = [4, 2, 5, 6, 1, 3, 7, 14, 9, 12, 10, 13, 15, 8, 11];
+const REORDERED: Order = [4, 2, 5, 6, 1, 3, 7, 14, 9, 12, 10, 13, 15, 8, 11];
 
 // Run before both orders, so that rows are there: those of 7 and 1 stay. With them 7 is done, and 6 is refused.
-const EARLIER: [u8; EVENTS] = [6, 13, 15, 2, 10, 9, 7, 1, 8, 1, 7, 3, 5, 12, 14];
+const EARLIER: Order = [6, 13, 15, 2, 10, 9, 7, 1, 8, 1, 7, 3, 5, 12, 14];
 
 // Opens a store for the rules. Says so where it is refused.
-fn opened(rt: &impl Print, store: &mut [u8; LENGTH]) {
-    match open(store, 256, 8, 8, 8, &RULES) {
-        Ok(()) => {}
-        Err(Fault { .. }) => {
-            say(rt, b"the rules are refused\n");
-        }
+fn opened(rt: &impl Print, store: &mut Store) {
+    if open(store, 256, 8, 8, 8, RULES.as_bytes()).is_err() {
+        let _ = println!(rt; "the rules are refused");
     }
 }
 
-// Runs the events of an order, and writes what was recorded.
-fn ran(
-    rt: &impl Print,
-    store: &mut [u8; LENGTH],
-    order: &[u8; EVENTS],
-    records: &mut [u8; EVENTS],
-) {
-    running::run(store, order, records);
-    telling::tell_all(rt, order, records);
+// Runs the events of an order, and writes what was answered.
+fn ran(rt: &impl Print, store: &mut Store, order: &Order) -> [Answered; EVENTS] {
+    let run = running::run(store, order);
+    telling::tell(rt, &run);
+    run
 }
 
 // Runs both orders. Is the second one of those that demand 3 means, and are the same events refused?
-fn both(rt: &impl Print, first: &mut [u8; LENGTH], second: &mut [u8; LENGTH]) -> bool {
-    let mut records = [0; EVENTS];
-    let mut others = [0; EVENTS];
-    say(rt, b"The events in their order\n");
-    ran(rt, first, &LISTED, &mut records);
-    say(rt, b"The events in another order\n");
-    ran(rt, second, &REORDERED, &mut others);
+fn both(rt: &impl Print, first: &mut Store, second: &mut Store) -> bool {
+    let _ = println!(rt; "The events in their order");
+    let run = ran(rt, first, &LISTED);
+    let _ = println!(rt; "The events in another order");
+    let other = ran(rt, second, &REORDERED);
     let kept = running::keeps(&REORDERED);
-    saying::whether(
+    whether(
         rt,
         kept,
-        b"a reordering, in which events that share a client id or a session number keep their order",
+        "a reordering, in which events that share a client id or a session number keep their order",
     );
-    let refused = running::same_refused(&LISTED, &records, &REORDERED, &others);
-    saying::whether(rt, refused, b"the same events are refused");
+    let refused = running::same_refused(&run, &other);
+    whether(rt, refused, "the same events are refused");
     kept & refused
 }
 
-// Opens both stores and, where rows are wanted, runs the same events on both.
-fn prepared(rt: &impl Print, first: &mut [u8; LENGTH], second: &mut [u8; LENGTH], rows: bool) {
+// Opens both stores and, where earlier events are given, runs them on both.
+fn prepared(rt: &impl Print, first: &mut Store, second: &mut Store, earlier: Option<&Order>) {
     opened(rt, first);
     opened(rt, second);
-    if rows {
-        let mut records = [0; EVENTS];
-        say(rt, b"The stores hold rows already, of these events\n");
-        ran(rt, first, &EARLIER, &mut records);
-        running::run(second, &EARLIER, &mut records);
+    if let Some(order) = earlier {
+        let _ = println!(rt; "The stores hold rows already, of these events");
+        ran(rt, first, order);
+        running::run(second, order);
     }
 }
 
 // Do two stores of the rules agree after the two orders, whatever they held before they were opened?
-fn round(rt: &impl Print, rows: bool) -> bool {
+fn round(rt: &impl Print, earlier: Option<&Order>) -> bool {
     let mut first = [0; LENGTH];
     let mut second = [255; LENGTH];
-    prepared(rt, &mut first, &mut second, rows);
-    let equal = comparing::same(&first, &second);
-    saying::whether(rt, equal, b"the stores are equal before the first event");
+    prepared(rt, &mut first, &mut second, earlier);
+    let equal = first == second;
+    whether(rt, equal, "the stores are equal before the first event");
     let meant = both(rt, &mut first, &mut second);
     let alike = comparing::alike(rt, &first, &second);
-    let answered = asking::ask_all(rt, &first, &second);
+    let answered = asking::ask_all(rt, [&first, &second]);
     equal & meant & alike & answered
 }
 
 fn main(rt: HostRuntime) {
-    say(&rt, &RULES);
-    let opened = round(&rt, false);
-    let filled = round(&rt, true);
-    if opened & filled {
-        say(&rt, b"the stores agree\n");
-    } else {
-        say(&rt, b"the stores differ\n");
-    }
+    let _ = print!(rt; "{RULES}");
+    let opened = round(&rt, None);
+    let filled = round(&rt, Some(&EARLIER));
+    let verdict = if opened & filled { "agree" } else { "differ" };
+    let _ = println!(rt; "the stores {verdict}");
 }

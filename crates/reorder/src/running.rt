@@ -1,155 +1,95 @@
 // Runs of the events in an order, and what two of them have in common.
-ghost use Rattle.std.specs.Prelude.{◌≡◌, length, drop};
+ghost use Rattle.std.specs.Prelude.{◌≡◌, find, drop, ◌==◌};
+ghost use Rattle.std.specs.List.{list_all};
+ghost use Rattle.std.specs.Option.{option_copied};
 ghost use Rattle.acl.specs.Demand3 as demand;
-ghost use Rattle.reorder.specs.Listing as events;
+ghost use Rattle.reorder.specs.declared.running.Answered.{Answered};
 ghost use Rattle.reorder.specs.Running as spec;
 
+use crate::Store;
 use crate::listing::listed;
-use crate::{LENGTH, listing};
+use rule::Refusal;
 
+// So many events are listed.
 pub const EVENTS: usize = 15;
 
-// Hands the events of this order to the store, each getting it as the one before left it, and records their answers.
-fn run_all(store: &mut [u8; LENGTH], order: &[u8], records: &mut [u8])
-    requires { length records.old ≡ length order.now }
-    ensures store_after { store.new ≡ demand.run (spec.events_of order.now) store.old }
-    ensures records_after { records.new ≡ spec.records_of (spec.events_of order.now) store.old }
+// The numbers of the events, in the order in which they come.
+pub type Order = [u8; EVENTS];
+
+// May the event `later` come behind `n`? Not `n` again, and none that is listed before it and shares a client id or a session number with it.
+#[tactic(auto, unfolding(crate::specs::Running::may_follow))]
+fn may_follow(n: u8, later: u8) -> bool
+    ensures { result ≡ spec.may_follow n later }
 {
-    let mut i = 0;
-    while i < order.len() {
-        let n = order[i];
-        let recorded = listing::apply(store, n);
-        records[i] = recorded;
-        i += 1;
-    }
+    later > n || (later < n && !listed(n).shares(&listed(later)))
 }
 
-// The same, of as many events as are listed.
-pub fn run(store: &mut [u8; LENGTH], order: &[u8; EVENTS], records: &mut [u8; EVENTS])
-    ensures store_after { store.new ≡ demand.run (spec.events_of order.now) store.old }
-    ensures records_after { records.new ≡ spec.records_of (spec.events_of order.now) store.old }
+// May all the events from this place on come behind `n`?
+fn leads(n: u8, order: &[u8], at: usize) -> bool
+    ensures { result ≡ list_all (spec.may_follow n) (drop at order.now) }
 {
-    run_all(store, order, records);
-}
-
-// Is one of the two answers done, and the other a refusal?
-fn differ(a: u8, b: u8) -> bool
-    ensures { result ≡ spec.differ a b }
-{
-    if a == 0 {
-        return b != 0;
-    }
-    b == 0
-}
-
-// What was recorded of the event with this number in a run of an order; 0 where there is none.
-fn record_of(n: u8, order: &[u8], records: &[u8]) -> u8
-    ensures { result ≡ spec.record_of n order.now records.now }
-{
-    let mut i = 0;
-    while i < order.len() {
-        if records.len() <= i {
-            return 0;
-        }
-        if order[i] == n {
-            return records[i];
-        }
-        i += 1;
-    }
-    0
-}
-
-// Of two orders of the same events, and what was recorded of them: is each event refused in the one run exactly if it is in the other?
-fn alike(order: &[u8], records: &[u8], other: &[u8], others: &[u8]) -> bool
-    ensures { result ≡ spec.same_refused order.now records.now other.now others.now }
-{
-    let mut i = 0;
-    while i < order.len() {
-        if records.len() <= i {
-            return true;
-        }
-        let there = record_of(order[i], other, others);
-        if differ(records[i], there) {
-            return false;
-        }
-        i += 1;
-    }
-    true
-}
-
-// The same, of as many events as are listed.
-pub fn same_refused(
-    order: &[u8; EVENTS],
-    records: &[u8; EVENTS],
-    other: &[u8; EVENTS],
-    others: &[u8; EVENTS],
-) -> bool
-    ensures { result ≡ spec.same_refused order.now records.now other.now others.now }
-{
-    alike(order, records, other, others)
-}
-
-// Do the two events share a client id or a session number?
-fn share(m: u8, n: u8) -> bool
-    ensures { result ≡ spec.share (events.listed m) (events.listed n) }
-{
-    let one = listed(m);
-    let other = listed(n);
-    if listing::session(one) == listing::session(other) {
-        return true;
-    }
-    let client = listing::client(one);
-    if client == 0 {
-        return false;
-    }
-    client == listing::client(other)
-}
-
-// From this place on, is there neither `n` itself nor an event that is listed before it and shares a client id or a session number
-// with it?
-fn keeps_one(order: &[u8], at: usize, n: u8) -> bool
-    ensures { result ≡ spec.keeps_one n (drop at order.now) }
-{
-    let mut i = at;
-    while i < order.len() {
-        let later = order[i];
-        if later == n {
-            return false;
-        }
-        if later < n {
-            if share(n, later) {
-                return false;
-            }
-        }
-        i += 1;
-    }
-    true
+    order.iter().skip(at).all(|&later| may_follow(n, later))
 }
 
 // The same, and is `n` the number of an event?
-fn fits(order: &[u8], at: usize, n: u8) -> bool
+fn fits(n: u8, order: &[u8], at: usize) -> bool
     ensures { result ≡ spec.fits n (drop at order.now) }
 {
-    if n == 0 {
-        return false;
-    }
-    if EVENTS < n as usize {
-        return false;
-    }
-    keeps_one(order, at, n)
+    (1..=EVENTS).contains(&(n as usize)) && leads(n, order, at)
 }
 
 // Is it an order of events, none twice, in which those that share a client id or a session number keep their order?
-pub fn keeps(order: &[u8]) -> bool
+pub fn keeps(order: &Order) -> bool
     ensures { result ≡ spec.keeps order.now }
 {
-    let mut i = 0;
-    while i < order.len() {
-        let n = order[i];
-        i += 1;
-        if !fits(order, i, n) {
-            return false;
-        }
+    order
+        .iter()
+        .enumerate()
+        .all(|(i, &n)| fits(n, order, i + 1))
+}
+
+// The number of an event, and what a store answered to it.
+#[derive(Clone, Copy, Debug, PartialEq, Eq)]
+pub struct Answered {
+    pub number: u8,
+    pub answer: Result<(), Refusal>,
+}
+
+// Hands the events of this order to the store, each getting it as the one before left it.
+#[tactic(auto, using(crate::proofs::Runs::running_end, crate::proofs::Runs::outcomes_run))]
+pub fn run(store: &mut Store, order: &Order) -> [Answered; EVENTS]
+    ensures numbers { spec.numbers result ≡ order.now }
+    ensures answers { spec.told result ≡ spec.causes (spec.events_of order.now) store.old }
+    ensures outcomes { spec.outcomes_of result ≡ demand.outcomes (spec.events_of order.now) store.old }
+    ensures store_after { store.new ≡ demand.run (spec.events_of order.now) store.old }
+{
+    let mut run = order.map(|number| Answered {
+        number,
+        answer: Ok(()),
+    });
+    for event in run.iter_mut() {
+        event.answer = listed(event.number).apply(store);
     }
-    true
+    run
+}
+
+// The event of a number in a run, if it is there.
+fn found(number: u8, run: &[Answered]) -> Option<&Answered>
+    ensures { option_copied result ≡ find (λ (a : Answered). a.number == number) run.now }
+{
+    run.iter().find(|event| event.number == number)
+}
+
+// What was answered to the event of a number; done where there is none.
+fn answer_to(number: u8, run: &[Answered]) -> Result<(), Refusal>
+    ensures { result ≡ spec.answer_to number run.now }
+{
+    found(number, run).map_or(Ok(()), |event| event.answer)
+}
+
+// Of two runs of the same events: is each event refused in the one exactly if it is in the other?
+pub fn same_refused(run: &[Answered], other: &[Answered]) -> bool
+    ensures { result ≡ spec.same_refused run.now other.now }
+{
+    run.iter().all(|event| event.answer.is_ok() == answer_to(event.number, other).is_ok())
 }

@@ -2,26 +2,23 @@
 #![tactic(auto)]
 
 use std::fs::File;
+use std::io;
 use std::rt::Files;
-use std::{io, str};
 use streams::deciding::decide;
 
-// One input, if there is a file with this number.
-fn replay<R: Files + Print + Eprint>(rt: &R, number: u8) -> bool {
-    let tens = b'0' + number / 10 % 10;
-    let ones = b'0' + number % 10;
-    let name = [tens, ones, b'.', b't', b'x', b't'];
-    let Ok(mut file) = File::open(rt, str::from_utf8(&name).unwrap()) else {
-        return false;
-    };
-    let _ = rt.write_all(&[b'=', b' ', tens, ones, b'\n']);
+// Replays the input with this number. An error says that there is none.
+fn replay<R: Files + Print + Eprint + Alloc>(rt: &R, number: u8) -> io::Result<()> {
+    let name = format!(in rt.alloc(); "{number:02}.txt")?;
+    let mut file = File::open(rt, name.as_str())?;
+    let _ = println!(rt; "= {number:02}");
     decide(rt, &mut file, &mut io::writer(rt));
-    true
+    Ok(())
 }
 
 fn main(rt: HostRuntime) {
-    let mut number: u8 = 1;
-    while number < 100 && replay(&rt, number) {
-        number += 1;
+    for number in 1..100 {
+        if replay(&rt, number).is_err() {
+            break;
+        }
     }
 }
