@@ -1,5 +1,5 @@
 -- How many lines of each kind there were, and how many of them agree.
-use Rattle.std.specs.Prelude.{ℕ, ◌+◌, ◌%◌, ◌^◌, Bool, cond, List, replicate, slice_index_or, Option, Some, None}
+use Rattle.std.specs.Prelude.{ℕ, ◌+◌, ◌%◌, ◌^◌, Bool, cond, replicate, slice_index_or, Option, Some, None}
 use Rattle.std.specs.List.{slice_set}
 use Rattle.vectors.specs.declared.judging.Kind.{Kind}
 use Rattle.vectors.specs.declared.judging.Kind.TheVariants.{Valid, Tree, Plain, Document, Within, RuleLine, Identity, OnStore, Client}

@@ -24,7 +24,8 @@ fn opened(rules: &[u8]) -> Option<[u8; STORE]>
     Some(store)
 }
 
-// May the client of the line connect? Its protocol is always given.
+// May the client of the line connect? Its protocol is always given. The C interface takes an optional value as two, so that each call here
+// lists them.
 fn connect_answer(line: &[u8], store: &[u8]) -> u32
     ensures { result ≡ packed (ask (spec.connect_of line.now) store.now) }
 {
@@ -90,7 +91,7 @@ fn publish_answer(line: &[u8], store: &[u8]) -> u32
 }
 
 // What the line's question is answered; none, where it has no such question, or no room for its rules.
-#[tactic(auto, using(text::proofs::Laws::same_lengths, crate::proofs::Parts::same_heads), unfolding(crate::specs::Asking::store_answer, crate::specs::Asking::question_named, text::specs::Text::same))]
+#[tactic(auto, using(text::proofs::Laws::same_lengths, crate::proofs::Laws::same_heads), unfolding(crate::specs::Asking::store_answer, crate::specs::Asking::question_named, text::specs::Text::same))]
 pub fn store_answer(line: &[u8]) -> Option<u32>
     ensures { result ≡ spec.store_answer line.now }
 {

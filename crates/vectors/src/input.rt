@@ -104,7 +104,7 @@ impl Run {
 }
 
 // Judges every line of standard input, and prints the tallies. A proved loop has to end, and nothing says that the input does: so it has
-// turns that no run uses up.
+// turns that no run uses up. A loop of its own: that of `streams` ends at a failed read without more, and this one prints the tallies then.
 pub(crate) fn replay(rt: &impl Print, input: &mut impl Read) {
     let mut run = Run::new();
     for _ in 0..u64::MAX {

@@ -1,6 +1,6 @@
 // What a recorded line asks, and whether this port gives its answer. A further kind of line is a variant of `Kind`, with a letter and an
 // arm of `agrees`, a clause each in specs/Judging.antt, and a place in specs/Tallies.antt.
-ghost use Rattle.std.specs.Prelude.{◌≡◌};
+ghost use Rattle.std.specs.Prelude.{◌≡◌, [], ◌∷◌, Some};
 ghost use Rattle.vectors.specs.Judging as spec;
 
 use crate::asking::{is_word, store_answer};
@@ -68,7 +68,7 @@ fn kind_of(word: &[u8]) -> Option<Kind>
 }
 
 // Is the answer the recorded one, which is `yes` or `no`?
-#[tactic(auto, using(text::proofs::Laws::same_lengths, crate::proofs::Parts::same_heads), unfolding(crate::specs::Judging::compared, text::specs::Text::same))]
+#[tactic(auto, using(text::proofs::Laws::same_lengths, crate::proofs::Laws::same_heads), unfolding(crate::specs::Judging::compared, text::specs::Text::same))]
 fn compared(answer: bool, recorded: &[u8]) -> Option<bool>
     ensures { result ≡ spec.compared answer recorded.now }
 {
@@ -122,18 +122,21 @@ fn is_answer(answer: u32, word: &[u8], recorded: &[u8]) -> bool
 }
 
 impl Kind {
-    // The letter of the kind.
-    pub(crate) fn letter(self) -> u8 {
+    // The letter that names the kind.
+    #[tactic(auto, unfolding(crate::specs::Judging::kind_of, text::specs::Text::same))]
+    pub fn letter(self) -> char
+        ensures { spec.kind_of (result ∷ []) ≡ Some self }
+    {
         match self {
-            Kind::Valid => b'V',
-            Kind::Tree => b'T',
-            Kind::Plain => b'P',
-            Kind::Document => b'J',
-            Kind::Within => b'L',
-            Kind::RuleLine => b'R',
-            Kind::Identity => b'I',
-            Kind::OnStore => b'Q',
-            Kind::Client => b'C',
+            Kind::Valid => 'V',
+            Kind::Tree => 'T',
+            Kind::Plain => 'P',
+            Kind::Document => 'J',
+            Kind::Within => 'L',
+            Kind::RuleLine => 'R',
+            Kind::Identity => 'I',
+            Kind::OnStore => 'Q',
+            Kind::Client => 'C',
         }
     }
 

@@ -3,7 +3,6 @@
 ghost use Rattle.std.specs.Prelude.{◌≡◌};
 ghost use Rattle.vectors.specs.Tallies as spec;
 
-use crate::input::say;
 use crate::judging::{ALL, Judged, KINDS};
 
 // The lines of a kind: those that agree, and all.
@@ -13,7 +12,7 @@ pub struct Tally {
     pub asked: u64,
 }
 
-// The lines so far, by kind, in the order of `ALL`.
+// The lines so far: those of a kind at its place in the order in which the kinds are declared.
 #[derive(Clone, Copy, Debug, PartialEq, Eq)]
 pub struct Tallies {
     pub by_kind: [Tally; KINDS],
@@ -32,12 +31,9 @@ impl Tally {
     }
 
     // Writes the tally, as `V 12 of 12 agree`.
-    fn print(self, rt: &impl Print, letter: u8) {
-        say(rt, &[letter, b' ']);
-        let _ = rt.print(self.agreed);
-        say(rt, b" of ");
-        let _ = rt.print(self.asked);
-        say(rt, b" agree\n");
+    fn print(self, rt: &impl Print, letter: char) {
+        let Tally { agreed, asked } = self;
+        let _ = println!(rt; "{letter} {agreed} of {asked} agree");
     }
 }
 
@@ -67,8 +63,8 @@ impl Tallies {
 
     // Writes the tallies, a line a kind.
     pub(crate) fn print(&self, rt: &impl Print) {
-        for (kind, tally) in ALL.iter().zip(&self.by_kind) {
-            tally.print(rt, kind.letter());
+        for kind in ALL {
+            self.by_kind[kind as usize].print(rt, kind.letter());
         }
     }
 }

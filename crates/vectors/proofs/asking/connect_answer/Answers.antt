@@ -1,5 +1,5 @@
 -- The client of the line, with the protocol that is always given. Assumes nothing.
-use Rattle.std.proofs.Common.{ap, ◌∙◌}
+use Rattle.std.proofs.Common.{ap}
 use Rattle.questions.specs.Question.{connect}
 use Rattle.questions.specs.Decision.{ask}
 use Rattle.mqtt_acl.specs.Answers.{packed}

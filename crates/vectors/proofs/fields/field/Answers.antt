@@ -1,12 +1,11 @@
 -- The parts of the line between its TABs. Assumes nothing.
-use Rattle.std.specs.Prelude.{Option, Some, None}
 use Rattle.std.specs.Option.{option_map, unwrap_or}
 use Rattle.std.specs.List.{slice_split, slice_get}
-use Rattle.std.proofs.Common.{◌≡◌, ℕ, List, [], refl, ap, ◌∙◌, rules, tests}
+use Rattle.std.proofs.Common.{◌≡◌, [], ap, ◌∙◌, rules, tests}
 use Rattle.std.proofs.lemmas.Iterator.Consumers.{nth_from_yields_List}
 use Rattle.std.proofs.lemmas.Iterator.Splits.{YieldsList-from_slice_split}
 use Rattle.vectors.specs.Fields.{is_tab, field}
-use Rattle.vectors.proofs.Parts.{now_or}
+use Rattle.vectors.proofs.Laws.{now_or}
 use Rattle.vectors.proofs.fields.field.Goals as goal
 
 pub returns : goal.returns

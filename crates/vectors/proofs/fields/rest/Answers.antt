@@ -8,16 +8,17 @@ use Rattle.std.specs.Option.{option_map, unwrap_or}
 use Rattle.std.specs.Slice.Iter.{split_rest, split_done, split_callee, splitn_parts, splitn_count}
 use Rattle.std.specs.declared.slice.SplitN.{SplitN}
 use Rattle.std.proofs.Common.{◌≡◌, ℕ, zero, suc, ◌+◌, ◌-◌, ◌<◌, ◌≤◌, Bool, true, false, cond, List, [], ◌∷◌, ◌++◌, length, refl, sym, ap, subst, ◌∙◌, arith, rules, tests}
-use mathlib.Core.Logic.{⊎_elim, inl, inr}
+use mathlib.Core.Logic.{⊎_elim}
+use Rattle.std.proofs.lemmas.Bool.{cases_Bool}
 use Rattle.std.proofs.lemmas.Fn.{always_returns_same}
 use Rattle.std.proofs.lemmas.Grind.{common_steps}
 use denote.Ref.{Bor}
 use denote.Param.Members.{Mut}
-use lib.ListN.{get_or}
 use Rattle.vectors.specs.Fields.{is_tab, rest}
-use Rattle.vectors.proofs.Parts.{now_or}
+use Rattle.vectors.proofs.Laws.{now_or}
 use Rattle.vectors.proofs.fields.rest.Goals as goal
 
+-- behind more TABs than there are nothing stands
 rest_none : (n : ℕ) (xs : List ℕ) → All (λ b. is_tab b ≡ false) xs → rest (suc n) xs ≡ []
 unfolding rest
 rest_none n [] h = refl
@@ -25,6 +26,7 @@ rest_none n (b ∷ xs) h =
     let e : is_tab b ≡ false = h 0 0 (omega arith) in
     rw e (rest_none n xs (λ k d l. h (suc k) d (omega arith)))
 
+-- behind the first TAB one fewer is left to pass
 rest_at : (n : ℕ) (xs : List ℕ) (y : ℕ) (left : List ℕ) → All (λ b. is_tab b ≡ false) xs → is_tab y ≡ true → rest (suc n) (xs ++ y ∷ left) ≡ rest n left
 unfolding rest
 rest_at n [] y left h t = rw t
@@ -32,6 +34,7 @@ rest_at n (b ∷ xs) y left h t =
     let e : is_tab b ≡ false = h 0 0 (omega arith) in
     rw e (rest_at n xs y left (λ k d l. h (suc k) d (omega arith)) t)
 
+-- one part, and what is left behind it
 rest_step : (n : ℕ) (line part left : List ℕ) (done : Bool) → MatchBool done (line ≡ part) ((y : ℕ) × (line ≡ part ++ (y ∷ left))) → IsFirstMatchOrLen is_tab line (length part)
     → rest (suc n) line ≡ cond done [] (rest n left)
 rest_step n line part left true e h = rest_none n line (λ k d l. h.0 k d (omega arith) (omega (arith, ap length e)))
@@ -41,6 +44,7 @@ rest_step n line part left false e h =
     ap (rest (suc n)) e.1 ∙ rest_at n part e.0 left front hit
 
 module _ {F : Type 0} (g : Mut F (Bor ℕ × Unit {0}) Bool) where
+  -- what a call of `next` does
   abbrev steps : SplitN ℕ F → Option (Bor (List ℕ)) → SplitN ℕ F → Type 0
   steps s r t =
       (splitn_count t ≡ splitn_count s - 1)
@@ -50,6 +54,7 @@ module _ {F : Type 0} (g : Mut F (Bor ℕ × Unit {0}) Bool) where
       × (split_done (splitn_parts s) ≡ false)
       × (1 < splitn_count s → (p : ℕ → Bool) → ComputesKey g p (split_callee (splitn_parts s)) → ComputesKey g p (split_callee (splitn_parts t)) × IsFirstMatchOrLen p (split_rest (splitn_parts s)) (length x.now)))
 
+  -- what the line comes to
   abbrev now_of : Option (Bor (List ℕ)) → List ℕ
   now_of r = unwrap_or (option_map (λ x. x.now) r) []
 
@@ -59,6 +64,7 @@ module _ {F : Type 0} (g : Mut F (Bor ℕ × Unit {0}) Bool) where
   over [] s t u (Some x) d y k = let e : split_done (splitn_parts t) ≡ false = k.1.3 in cc
   over (x ∷ xs) s t u r d y k = let e : split_done (splitn_parts s) ≡ false = y.1.1.3 in cc
 
+  -- behind n other parts
   left_behind : (n : ℕ) (xs : List (Bor (List ℕ))) (s t u : SplitN ℕ F) (r : Option (Bor (List ℕ)))
       → splitn_count s ≡ n + 1 → split_done (splitn_parts s) ≡ false → ComputesKey g is_tab (split_callee (splitn_parts s))
       → Yields steps s xs t → steps t r u → MatchOption r (length xs ≤ n) (λ _. length xs ≡ n) → now_of r ≡ rest n (split_rest (splitn_parts s))
@@ -80,12 +86,9 @@ module _ {F : Type 0} (g : Mut F (Bor ℕ × Unit {0}) Bool) where
       (λ (last : split_done (splitn_parts j) ≡ true). over xs j t u r last others k ∙ sym (rw last at cut))
       (λ (on : split_done (splitn_parts j) ≡ false).
       left_behind n xs j t u r (omega (arith, c, first.0)) on more.0 others k (fewer _ _ r l) ∙ sym (rw on at cut))
-      (either (split_done (splitn_parts j)))
+      (cases_Bool (split_done (splitn_parts j)))
     where
-      either : (b : Bool) → (b ≡ true) ⊎ (b ≡ false)
-      either true = inl refl
-      either false = inr refl
-
+      -- one part fewer on both sides
       fewer : (m n : ℕ) (r : Option (Bor (List ℕ))) → MatchOption r (suc m ≤ suc n) (λ _. suc m ≡ suc n) → MatchOption r (m ≤ n) (λ _. m ≡ n)
       fewer m n None l = omega arith
       fewer m n (Some z) l = omega arith

@@ -1,10 +1,11 @@
--- What is left of a slice's parts, where there may be none. Assumes nothing.
+-- What stands behind a reference that may be missing, and texts that differ in their first byte. Assumes nothing.
 use Rattle.std.specs.Prelude.{Option, Some, None}
 use Rattle.std.specs.Option.{option_map, unwrap_or}
 use Rattle.std.proofs.Common.{◌≡◌, ℕ, false, List, [], ◌∷◌, get_or, refl, ne_eqb}
 use denote.Ref.{Bor}
 use Rattle.text.specs.Text.{same}
 
+-- the text, or else another
 pub now_or : (r : Option (Bor (List ℕ))) (d : Bor (List ℕ)) → (unwrap_or r d).now ≡ unwrap_or (option_map (λ x. x.now) r) d.now
 now_or None d = refl
 now_or (Some x) d = refl
