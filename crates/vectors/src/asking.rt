@@ -4,7 +4,7 @@ ghost use Rattle.mqtt_acl.specs.Answers.{packed};
 ghost use Rattle.questions.specs.Decision.{ask};
 ghost use Rattle.vectors.specs.Asking as spec;
 
-use crate::fields::{Client, Lent, digit, field, rest};
+use crate::fields::{Client, digit, field, rest};
 use mqtt_acl::{mqtt_acl_connect, mqtt_acl_open, mqtt_acl_publish, mqtt_acl_subscribe};
 
 // The store of a question: R 512, F, E and N 1.
@@ -13,7 +13,6 @@ const STORE: usize = 1374;
 const RULES: usize = 512;
 
 // The store, opened for rules with `|` between them; none without room for their text.
-#[tactic(auto, unfolding(crate::specs::Asking::opened, crate::specs::Asking::fits, mqtt_acl::specs::Rules::where_true))]
 fn opened(rules: &[u8]) -> Option<[u8; STORE]>
     ensures { result ≡ spec.opened rules.now }
 {
@@ -40,7 +39,7 @@ fn connect_answer(line: &[u8], store: &[u8]) -> u32
         client.password.text,
         client.address.has,
         client.address.text,
-        digit(Lent::of(field(line, 9)).text),
+        digit(client.protocol.text),
     )
 }
 

@@ -33,11 +33,6 @@ pub fn client_answer(line: &[u8]) -> u64
 pub fn is_packed(answer: u64, recorded: &[u8]) -> bool
     ensures { result ≡ spec.is_packed answer recorded.now }
 {
-    match recorded {
-        [what, value, line] => {
-            [u64::from(*what), u64::from(*value), u64::from(*line)]
-                == [answer % 16 + 48, answer / 16 % 256 + 48, answer / 4096 + 48]
-        }
-        _ => false,
-    }
+    let parts = [answer % 16 + 48, answer / 16 % 256 + 48, answer / 4096 + 48];
+    matches!(recorded, [what, value, line] if [u64::from(*what), u64::from(*value), u64::from(*line)] == parts)
 }

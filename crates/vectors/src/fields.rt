@@ -79,7 +79,8 @@ impl<'a> Client<'a> {
     #[tactic(auto, unfolding(crate::specs::Fields::client, crate::specs::Fields::text_in, mqtt_acl::specs::Rules::yes, mqtt_acl::specs::Rules::flag))]
     pub fn at(line: &'a [u8], n: usize) -> Client<'a>
         requires { n < 2 ^ 64 - 5 }
-        ensures { (number : List ℕ → ℕ) → spec.seen number result ≡ spec.client number n line.now }
+        ensures seen { (number : List ℕ → ℕ) → spec.seen number result ≡ spec.client number n line.now }
+        ensures protocol { result.protocol.text.now ≡ spec.lent (spec.field (n + 4) line.now) }
     {
         Client {
             id: field(line, n),

@@ -1,22 +1,27 @@
 // The lines of standard input. Bytes come in pieces, and a buffer of 4,096 bytes carries the line that has begun from piece to piece.
 // A longer line is malformed. `main` calls `replay`.
+ghost use Rattle.std.specs.Prelude.{◌≤◌};
+
 use crate::judging::{Judged, judge};
 use crate::tallies::Tallies;
-use arrayvec::ArrayVec;
 use std::io::Read;
 
-// What is known between two bytes of the input.
+const BUFFER: usize = 4096;
+
+// What is known between two bytes of the input. An array, not a `Vec`: memory stays fixed, however long a line is.
 #[derive(Drop)]
 struct Run {
-    // The line that has begun, as far as the buffer has it.
-    line: ArrayVec<u8, 4096>,
+    buffer: [u8; BUFFER],
+    // How many bytes of the line that has begun are in the buffer.
+    length: usize,
     // Is that line longer than the buffer? Then its beginning is written out already, as malformed.
     long: bool,
     tallies: Tallies,
+    ghost within: { length ≤ 4096 },
 }
 
 // Writes bytes as they are. What cannot be written is lost; the run goes on.
-pub(crate) fn say(rt: &impl Print, bytes: &[u8]) {
+fn say(rt: &impl Print, bytes: &[u8]) {
     let _ = rt.write_all(bytes);
 }
 
@@ -45,7 +50,8 @@ impl Run {
     // Before the first byte.
     fn new() -> Run {
         Run {
-            line: ArrayVec::new(),
+            buffer: [0; BUFFER],
+            length: 0,
             long: false,
             tallies: Tallies::none(),
         }
@@ -53,7 +59,7 @@ impl Run {
 
     // The end of a line.
     fn end_line(&mut self, rt: &impl Print) {
-        let line = self.line.as_slice();
+        let line = &self.buffer[..self.length];
         if self.long {
             write_line(rt, line);
         } else {
@@ -61,7 +67,7 @@ impl Run {
             report(rt, judged, line);
             self.tallies.count(judged);
         }
-        self.line.clear();
+        self.length = 0;
         self.long = false;
     }
 
@@ -70,15 +76,16 @@ impl Run {
         if b == b'\n' {
             return self.end_line(rt);
         }
-        if self.line.is_full() {
+        if self.length == BUFFER {
             if !self.long {
                 write_malformed(rt);
             }
-            say(rt, self.line.as_slice());
-            self.line.clear();
+            say(rt, &self.buffer);
+            self.length = 0;
             self.long = true;
         }
-        self.line.push(b);
+        self.buffer[self.length] = b;
+        self.length += 1;
     }
 
     // Reads once. Is there more to read? An error ends the input.
@@ -96,7 +103,7 @@ impl Run {
 
     // The end of the input, where the last line may lack its LF.
     fn finish(&mut self, rt: &impl Print) {
-        if !self.line.is_empty() || self.long {
+        if self.length > 0 || self.long {
             self.end_line(rt);
         }
         self.tallies.print(rt);

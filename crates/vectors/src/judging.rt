@@ -84,10 +84,7 @@ fn compared(answer: bool, recorded: &[u8]) -> Option<bool>
 fn is_digit(answer: u32, recorded: &[u8]) -> bool
     ensures { result ≡ spec.is_digit answer recorded.now }
 {
-    match recorded {
-        [digit] => u64::from(*digit) == u64::from(answer) + 48,
-        _ => false,
-    }
+    matches!(recorded, [digit] if u64::from(*digit) == u64::from(answer) + 48)
 }
 
 // The longest decoded string.

@@ -11,5 +11,5 @@ pub returns : goal.returns
 unfolding connect_of
 returns c =
     let line = c.args.line.now in
-    rw (c.mqtt_acl_connect.ensures, c.from.ensures, c.digit.ensures, c.field.ensures, c.digit-2.ensures, c.of.ensures.text, c.field-2.ensures)
-    (ap (λ k. packed (ask (connect (digit (field 4 line)) (with_protocol (digit (lent (field 9 line))) k)) c.args.store.now)) (c.at-client.ensures digit))
+    rw (c.mqtt_acl_connect.ensures, c.from.ensures, c.digit.ensures, c.field.ensures, c.digit-2.ensures, c.at-client.ensures.protocol)
+    (ap (λ k. packed (ask (connect (digit (field 4 line)) (with_protocol (digit (lent (field 9 line))) k)) c.args.store.now)) (c.at-client.ensures.seen digit))
