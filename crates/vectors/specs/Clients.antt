@@ -6,15 +6,15 @@ use Rattle.mqtt_acl.specs.Clients.{packed}
 use Rattle.vectors.specs.Fields.{rest, field, is_given, lent, text_in, number}
 
 -- who asks: superuser, client id, name
-unfoldable pub client_in : List ℕ → Client
+abbrev pub client_in : List ℕ → Client
 client_in line = record { superuser = is_given (field 2 line); id = field 7 line; name = text_in (field 8 line) }
 
 -- the QoS of the question
-unfoldable pub qos_in : List ℕ → ℕ
+abbrev pub qos_in : List ℕ → ℕ
 qos_in line = number (lent (field 4 line))
 
 -- publish or subscribe
-unfoldable pub question_in : List ℕ → Question
+abbrev pub question_in : List ℕ → Question
 question_in line =
     cond (is_given (field 3 line)) (publish (qos_in line) (is_given (field 5 line)) (is_given (field 6 line)) (field 9 line)) (subscribe (qos_in line) (field 9 line))
 

@@ -7,7 +7,7 @@ use crate::fields::{Lent, field, is_given, number, rest};
 use mqtt_acl::clients::{mqtt_acl_client_publish, mqtt_acl_client_subscribe};
 
 // What the exported function answers.
-#[tactic(auto, unfolding(crate::specs::Clients::client_answer, crate::specs::Clients::client_in, crate::specs::Clients::question_in, crate::specs::Clients::qos_in, crate::specs::Fields::text_in, mqtt_acl::specs::Rules::yes, mqtt_acl::specs::Rules::flag))]
+#[tactic(auto, unfolding(crate::specs::Clients::client_answer, crate::specs::Fields::text_in, mqtt_acl::specs::Rules::yes, mqtt_acl::specs::Rules::flag))]
 pub fn client_answer(line: &[u8]) -> u64
     ensures { result ≡ spec.client_answer line.now }
 {

@@ -1,5 +1,5 @@
-// What a recorded line asks, and whether this port gives its answer. A further kind of line is a variant of `Kind`, with a letter and an
-// arm of `agrees`, a clause each in specs/Judging.antt, and a place in specs/Tallies.antt.
+// What a recorded line asks, and whether this port gives its answer. A further kind of line is a variant of `Kind`, with a place in `ALL`, a
+// letter in `kind_of` and `letter`, an arm of `agrees`, and a clause of each in specs/Judging.antt and specs/Tallies.antt.
 ghost use Rattle.std.specs.Prelude.{◌≡◌, [], ◌∷◌, Some};
 ghost use Rattle.vectors.specs.Judging as spec;
 
