@@ -1,9 +1,10 @@
 -- How many lines of each kind there were, and how many of them agree.
-use Rattle.std.specs.Prelude.{ℕ, ◌+◌, ◌%◌, ◌^◌, List, replicate, slice_index, slice_set}
+use Rattle.std.specs.Prelude.{ℕ, ◌+◌, ◌%◌, ◌^◌, Bool, cond, replicate, slice_index_or, Option, Some, None}
+use Rattle.std.specs.List.{slice_set}
 use Rattle.vectors.specs.declared.judging.Kind.{Kind}
 use Rattle.vectors.specs.declared.judging.Kind.TheVariants.{Valid, Tree, Plain, Document, Within, RuleLine, Identity, OnStore, Client}
 use Rattle.vectors.specs.declared.judging.Judged.{Judged}
-use Rattle.vectors.specs.declared.judging.Judged.TheVariants.{Agrees, Differs, Malformed}
+use Rattle.vectors.specs.declared.tallies.Tally.{Tally}
 use Rattle.vectors.specs.declared.tallies.Tallies.{Tallies}
 
 -- the number of kinds, and where each is counted
@@ -22,15 +23,18 @@ place OnStore = 7
 place Client = 8
 
 -- before the first line: none of any kind
+abbrev pub no_lines : Tally
+no_lines = record { agreed = 0; asked = 0 }
+
 abbrev pub no_tallies : Tallies
-no_tallies = record { agreed = replicate kinds 0; asked = replicate kinds 0 }
+no_tallies = record { by_kind = replicate kinds no_lines }
 
--- one more of this kind, in 64 bits
-unfoldable pub one_more : List ℕ → Kind → List ℕ
-one_more counts kind = slice_set counts (place kind) ((slice_index counts (place kind) + 1) % 2 ^ 64)
+-- one more line, in 64 bits
+unfoldable pub more : Tally → Bool → Tally
+more t agrees = record { agreed = (t.agreed + cond agrees 1 0) % 2 ^ 64; asked = (t.asked + 1) % 2 ^ 64 }
 
--- a malformed line is of no kind
-unfoldable pub counted : Tallies → Judged → Tallies
-counted t (Agrees kind) = record { agreed = one_more t.agreed kind; asked = one_more t.asked kind }
-counted t (Differs kind) = record { agreed = t.agreed; asked = one_more t.asked kind }
-counted t Malformed = t
+-- the line counts for its kind; a malformed one is of no kind
+unfoldable pub counted : Tallies → Option Judged → Tallies
+counted t (Some judged) =
+    record { by_kind = slice_set t.by_kind (place judged.kind) (more (slice_index_or t.by_kind (place judged.kind) no_lines) judged.agrees) }
+counted t None = t

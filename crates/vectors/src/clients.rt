@@ -3,62 +3,36 @@
 ghost use Rattle.std.specs.Prelude.{◌≡◌};
 ghost use Rattle.vectors.specs.Clients as spec;
 
-use crate::fields::{field, given_flag, is_given, lent, number, rest};
-
-fn subscribe_answer(line: &[u8]) -> u64
-    ensures { result ≡ spec.subscribe_answer line.now }
-{
-    let name = field(line, 8);
-    mqtt_acl::clients::mqtt_acl_client_subscribe(
-        given_flag(field(line, 2)),
-        field(line, 7),
-        given_flag(name),
-        lent(name),
-        rest(line, 10),
-        field(line, 9),
-        number(field(line, 4)) as u64,
-    )
-}
-
-fn publish_answer(line: &[u8]) -> u64
-    ensures { result ≡ spec.publish_answer line.now }
-{
-    let name = field(line, 8);
-    mqtt_acl::clients::mqtt_acl_client_publish(
-        given_flag(field(line, 2)),
-        field(line, 7),
-        given_flag(name),
-        lent(name),
-        rest(line, 10),
-        field(line, 9),
-        number(field(line, 4)) as u64,
-        given_flag(field(line, 5)),
-        given_flag(field(line, 6)),
-    )
-}
+use crate::fields::{Lent, field, is_given, number, rest};
+use mqtt_acl::clients::{mqtt_acl_client_publish, mqtt_acl_client_subscribe};
 
 // What the exported function answers.
+#[tactic(auto, unfolding(crate::specs::Clients::client_answer, crate::specs::Fields::text_in, mqtt_acl::specs::Rules::yes, mqtt_acl::specs::Rules::flag))]
 pub fn client_answer(line: &[u8]) -> u64
     ensures { result ≡ spec.client_answer line.now }
 {
+    let superuser = Lent::of(field(line, 2)).has;
+    let qos = u64::from(number(Lent::of(field(line, 4)).text));
+    let retain = Lent::of(field(line, 5)).has;
+    let disconnect = Lent::of(field(line, 6)).has;
+    let id = field(line, 7);
+    let name = Lent::of(field(line, 8));
+    let topic = field(line, 9);
+    let rules = rest(line, 10);
     if is_given(field(line, 3)) {
-        return publish_answer(line);
+        mqtt_acl_client_publish(
+            superuser, id, name.has, name.text, rules, topic, qos, retain, disconnect,
+        )
+    } else {
+        mqtt_acl_client_subscribe(superuser, id, name.has, name.text, rules, topic, qos)
     }
-    subscribe_answer(line)
 }
 
 // Is the recorded answer this one: what is answered, the rule or number, and the line, each a byte above `0`?
+#[tactic(auto, using(text::proofs::Laws::same_lengths), unfolding(crate::specs::Clients::is_packed, text::specs::Text::same))]
 pub fn is_packed(answer: u64, recorded: &[u8]) -> bool
     ensures { result ≡ spec.is_packed answer recorded.now }
 {
-    if recorded.len() != 3 {
-        return false;
-    }
-    if recorded[0] as u64 != answer % 16 + 48 {
-        return false;
-    }
-    if recorded[1] as u64 != answer / 16 % 256 + 48 {
-        return false;
-    }
-    recorded[2] as u64 == answer / 4096 + 48
+    let parts = [answer % 16 + 48, answer / 16 % 256 + 48, answer / 4096 + 48];
+    matches!(recorded, [what, value, line] if [u64::from(*what), u64::from(*value), u64::from(*line)] == parts)
 }

@@ -1,101 +1,93 @@
-// The fields of a recorded line, which have a TAB between them. `judging` reads a line by them.
-ghost use Rattle.std.specs.Prelude.{◌≡◌};
+// The fields of a recorded line, which have a TAB between them, and the values in them. `judging` reads a line by these.
+ghost use Rattle.std.specs.Prelude.{◌≡◌, ℕ, List, ◌+◌, ◌-◌, ◌<◌, ◌^◌};
 ghost use Rattle.mqtt_acl.specs.Rules.{yes};
 ghost use Rattle.vectors.specs.Fields as spec;
 
 // What stands behind the first `n` TABs of the line; nothing where it has fewer.
 pub fn rest(line: &[u8], n: usize) -> &[u8]
+    requires { n < 2 ^ 64 - 1 }
     ensures { result.now ≡ spec.rest n line.now }
 {
-    let mut left = n;
-    let mut i = 0;
-    while i < line.len() {
-        if left == 0 {
-            return &line[i..];
-        }
-        if line[i] == b'\t' {
-            left -= 1;
-        }
-        i += 1;
-    }
-    &line[i..]
+    line.splitn(n + 1, |b| *b == b'\t').nth(n).unwrap_or(b"")
 }
 
-// What stands before the first TAB of the text; all of it where it has none.
-fn first(text: &[u8]) -> &[u8]
-    ensures { result.now ≡ spec.first text.now }
-{
-    let mut i = 0;
-    while i < text.len() {
-        if text[i] == b'\t' {
-            return &text[..i];
-        }
-        i += 1;
-    }
-    text
-}
-
-// The field of the line behind `n` TABs.
+// The field of the line behind `n` TABs; an empty one where it has fewer.
+#[tactic(auto, unfolding(crate::specs::Fields::field))]
 pub fn field(line: &[u8], n: usize) -> &[u8]
     ensures { result.now ≡ spec.field n line.now }
 {
-    first(rest(line, n))
+    line.split(|b| *b == b'\t').nth(n).unwrap_or(b"")
 }
 
 // Is the optional value of this field given? Then `=` stands before it, else `-`.
+#[tactic(auto, unfolding(crate::specs::Fields::is_given))]
 pub fn is_given(text: &[u8]) -> bool
     ensures { result ≡ spec.is_given text.now }
 {
-    text.len() > 0 && text[0] == b'='
+    text.first() == Some(&b'=')
 }
 
-// A test as a flag that an exported function takes: 1 where it holds, else 0.
-pub fn flag(is: bool) -> u8
-    ensures { result ≡ yes is }
-{
-    if is {
-        return 1;
+// The optional value of a field as the exported functions take it: a flag, and a text that is lent even where the flag is 0.
+#[derive(Clone, Copy, Debug)]
+pub struct Lent<'a> {
+    pub has: u8,
+    pub text: &'a [u8],
+}
+
+impl<'a> Lent<'a> {
+    // The value of a field: behind the byte that says whether it is given.
+    #[tactic(auto, unfolding(crate::specs::Fields::lent, mqtt_acl::specs::Rules::yes))]
+    pub fn of(text: &'a [u8]) -> Lent<'a>
+        ensures has { result.has ≡ yes (spec.is_given text.now) }
+        ensures text { result.text.now ≡ spec.lent text.now }
+    {
+        Lent {
+            has: u8::from(is_given(text)),
+            text: text.get(1..).unwrap_or(b""),
+        }
     }
-    0
 }
 
-// The flag of this field's optional value.
-pub fn given_flag(text: &[u8]) -> u8
-    ensures { result ≡ yes (spec.is_given text.now) }
-{
-    flag(is_given(text))
-}
-
-// The value behind that byte.
-pub fn lent(text: &[u8]) -> &[u8]
-    ensures { result.now ≡ spec.lent text.now }
-{
-    if text.len() == 0 {
-        return text;
-    }
-    &text[1..]
-}
-
-// The value as a number, which is its first byte; 0 where there is none.
+// The text as a number, which is its first byte; 0 where there is none.
+#[tactic(auto, unfolding(crate::specs::Fields::number))]
 pub fn number(text: &[u8]) -> u8
     ensures { result ≡ spec.number text.now }
 {
-    if text.len() < 2 {
-        return 0;
-    }
-    text[1]
+    text.first().copied().unwrap_or(0)
 }
 
-// The digit at a place of the text as a number; 0 where there is none.
-pub fn digit(text: &[u8], at: usize) -> u8
-    ensures { result ≡ spec.digit at text.now }
+// The same of a digit.
+#[tactic(auto, unfolding(crate::specs::Fields::digit))]
+pub fn digit(text: &[u8]) -> u8
+    ensures { result ≡ spec.digit text.now }
 {
-    if text.len() <= at {
-        return 0;
+    number(text).saturating_sub(b'0')
+}
+
+// The client of a line. A protocol is a number in a line `I`, and a digit in a line `Q`.
+#[derive(Clone, Copy, Debug)]
+pub struct Client<'a> {
+    pub id: &'a [u8],
+    pub name: Lent<'a>,
+    pub password: Lent<'a>,
+    pub address: Lent<'a>,
+    pub protocol: Lent<'a>,
+}
+
+impl<'a> Client<'a> {
+    // The client in the five fields from the one behind `n` TABs on.
+    #[tactic(auto, unfolding(crate::specs::Fields::client, crate::specs::Fields::text_in, mqtt_acl::specs::Rules::yes, mqtt_acl::specs::Rules::flag))]
+    pub fn at(line: &'a [u8], n: usize) -> Client<'a>
+        requires { n < 2 ^ 64 - 5 }
+        ensures seen { (number : List ℕ → ℕ) → spec.seen number result ≡ spec.client number n line.now }
+        ensures protocol { result.protocol.text.now ≡ spec.lent (spec.field (n + 4) line.now) }
+    {
+        Client {
+            id: field(line, n),
+            name: Lent::of(field(line, n + 1)),
+            password: Lent::of(field(line, n + 2)),
+            address: Lent::of(field(line, n + 3)),
+            protocol: Lent::of(field(line, n + 4)),
+        }
     }
-    let b = text[at];
-    if b < b'0' {
-        return 0;
-    }
-    b - b'0'
 }

@@ -1,17 +1,19 @@
-// What a recorded line asks, and whether this port gives its answer. A further kind of line is a variant of `Kind`, a letter in
-// `kind_of`, a function of its own and an arm of `judge`, a clause each in specs/Judging.antt, and a place in `tallies`.
-ghost use Rattle.std.specs.Prelude.{◌≡◌};
-ghost use Rattle.vectors.specs.Fields.{field};
+// What a recorded line asks, and whether this port gives its answer. A further kind of line is a variant of `Kind`, with a place in `ALL`, a
+// letter in `kind_of` and `letter`, an arm of `agrees`, and a clause of each in specs/Judging.antt and specs/Tallies.antt.
+ghost use Rattle.std.specs.Prelude.{◌≡◌, [], ◌∷◌, Some};
 ghost use Rattle.vectors.specs.Judging as spec;
 
-use crate::asking::{STORE, connect_answer, is_word, open_rules, publish_answer, subscribe_answer};
+use crate::asking::{is_word, store_answer};
 use crate::clients::{client_answer, is_packed};
-use crate::fields::{field, given_flag, lent, number, rest};
+use crate::fields::{Client, field, number, rest};
+use json_text::values::{is_document, is_document_within};
+use mqtt_acl::{mqtt_acl_identity, mqtt_acl_rule_refusal};
+use topic::{plain_match, tree_match, valid_filter};
 
 // The kinds of questions: is it a valid filter (`V`), Tree match (`T`), Plain match (`P`), is it a JSON document (`J`), one whose
 // strings are within the limit (`L`), is it a rule, or why not (`R`), does the rule mean a client (`I`), connect, subscribe or
 // publish on a store (`Q`), and what does a client's own rule say (`C`).
-#[derive(Clone, Copy)]
+#[derive(Clone, Copy, Debug, PartialEq, Eq)]
 pub enum Kind {
     Valid,
     Tree,
@@ -24,198 +26,150 @@ pub enum Kind {
     Client,
 }
 
-// What a line comes to.
-#[derive(Clone, Copy)]
-pub enum Judged {
-    Agrees(Kind),
-    Differs(Kind),
-    Malformed,
+// The number of kinds, and all of them, in the order in which they are declared.
+pub const KINDS: usize = 9;
+
+pub const ALL: [Kind; KINDS] = [
+    Kind::Valid,
+    Kind::Tree,
+    Kind::Plain,
+    Kind::Document,
+    Kind::Within,
+    Kind::RuleLine,
+    Kind::Identity,
+    Kind::OnStore,
+    Kind::Client,
+];
+
+// What a line comes to: its kind, and whether it agrees.
+#[derive(Clone, Copy, Debug, PartialEq, Eq)]
+pub struct Judged {
+    pub kind: Kind,
+    pub agrees: bool,
 }
 
 // The kind that the first field of a line names.
+#[tactic(auto, using(text::proofs::Laws::same_lengths), unfolding(crate::specs::Judging::kind_of, text::specs::Text::same))]
 fn kind_of(word: &[u8]) -> Option<Kind>
     ensures { result ≡ spec.kind_of word.now }
 {
-    if word.len() != 1 {
-        return None;
-    }
-    match word[0] {
-        b'V' => Some(Kind::Valid),
-        b'T' => Some(Kind::Tree),
-        b'P' => Some(Kind::Plain),
-        b'J' => Some(Kind::Document),
-        b'L' => Some(Kind::Within),
-        b'R' => Some(Kind::RuleLine),
-        b'I' => Some(Kind::Identity),
-        b'Q' => Some(Kind::OnStore),
-        b'C' => Some(Kind::Client),
+    match word {
+        b"V" => Some(Kind::Valid),
+        b"T" => Some(Kind::Tree),
+        b"P" => Some(Kind::Plain),
+        b"J" => Some(Kind::Document),
+        b"L" => Some(Kind::Within),
+        b"R" => Some(Kind::RuleLine),
+        b"I" => Some(Kind::Identity),
+        b"Q" => Some(Kind::OnStore),
+        b"C" => Some(Kind::Client),
         _ => None,
     }
 }
 
-// A line of this kind that agrees, or that doesn't.
-fn verdict(kind: Kind, agrees: bool) -> Judged
-    ensures { result ≡ spec.verdict kind agrees }
+// Is the answer the recorded one, which is `yes` or `no`?
+#[tactic(auto, using(text::proofs::Laws::same_lengths, crate::proofs::Laws::same_heads), unfolding(crate::specs::Judging::compared, text::specs::Text::same))]
+fn compared(answer: bool, recorded: &[u8]) -> Option<bool>
+    ensures { result ≡ spec.compared answer recorded.now }
 {
-    if agrees {
-        return Judged::Agrees(kind);
+    match recorded {
+        b"yes" => Some(answer),
+        b"no" => Some(!answer),
+        _ => None,
     }
-    Judged::Differs(kind)
 }
 
-// The answer to a question of this kind against the recorded one.
-fn compared(kind: Kind, answer: bool, recorded: &[u8]) -> Judged
-    ensures { result ≡ spec.compared kind answer recorded.now }
+// Is the recorded answer this digit?
+#[tactic(auto, using(text::proofs::Laws::same_lengths), unfolding(crate::specs::Judging::is_digit, text::specs::Text::same))]
+fn is_digit(answer: u32, recorded: &[u8]) -> bool
+    ensures { result ≡ spec.is_digit answer recorded.now }
 {
-    if text::same(recorded, b"yes") {
-        return verdict(kind, answer);
-    }
-    if text::same(recorded, b"no") {
-        return verdict(kind, !answer);
-    }
-    Judged::Malformed
-}
-
-// A line `V`, text, answer.
-fn valid_line(line: &[u8]) -> Judged
-    ensures { result ≡ spec.asked line.now Kind.Valid }
-{
-    let answer = topic::valid_filter(field(line, 1));
-    compared(Kind::Valid, answer, rest(line, 2))
-}
-
-// A line `T`, filter, text, answer.
-fn tree_line(line: &[u8]) -> Judged
-    ensures { result ≡ spec.asked line.now Kind.Tree }
-{
-    let answer = topic::tree_match(field(line, 1), field(line, 2));
-    compared(Kind::Tree, answer, rest(line, 3))
-}
-
-// A line `P`, filter, text, answer.
-fn plain_line(line: &[u8]) -> Judged
-    ensures { result ≡ spec.asked line.now Kind.Plain }
-{
-    let answer = topic::plain_match(field(line, 1), field(line, 2));
-    compared(Kind::Plain, answer, rest(line, 3))
-}
-
-// A line `J`, answer, JSON line.
-fn document_line(line: &[u8]) -> Judged
-    ensures { result ≡ spec.asked line.now Kind.Document }
-{
-    let answer = json_text::values::is_document(rest(line, 2));
-    compared(Kind::Document, answer, field(line, 1))
+    matches!(recorded, [digit] if u64::from(*digit) == u64::from(answer) + 48)
 }
 
 // The longest decoded string.
 const LIMIT: usize = 256;
 
-// A line `L`, answer, JSON line.
-fn within_line(line: &[u8]) -> Judged
-    ensures { result ≡ spec.asked line.now Kind.Within }
+// What the exported function answers to a line `I`, answer, client id, name, password, address, protocol, rule line.
+#[tactic(auto, unfolding(crate::specs::Judging::identity_asked, mqtt_acl::specs::Rules::identity_of))]
+fn identity_answer(line: &[u8]) -> u8
+    ensures { result ≡ spec.identity_asked line.now }
 {
-    let answer = json_text::values::is_document_within(rest(line, 2), LIMIT);
-    compared(Kind::Within, answer, field(line, 1))
-}
-
-// Is the recorded answer this digit?
-fn is_digit(answer: u32, recorded: &[u8]) -> bool
-    ensures { result ≡ spec.is_digit answer recorded.now }
-{
-    if recorded.len() != 1 {
-        return false;
-    }
-    recorded[0] as u64 == answer as u64 + 48
-}
-
-// A line `R`, number of document 01 or 0, rule line.
-fn rule_line(line: &[u8]) -> Judged
-    ensures { result ≡ spec.asked line.now Kind.RuleLine }
-{
-    let answer = mqtt_acl::mqtt_acl_rule_refusal(rest(line, 2));
-    verdict(Kind::RuleLine, is_digit(answer as u32, field(line, 1)))
-}
-
-// A line `I`, answer, client id, name, password, address, protocol, rule line.
-fn identity_line(line: &[u8]) -> Judged
-    ensures { result ≡ spec.asked line.now Kind.Identity }
-{
-    let name = field(line, 3);
-    let password = field(line, 4);
-    let address = field(line, 5);
-    let protocol = field(line, 6);
-    let answer = mqtt_acl::mqtt_acl_identity(
+    let client = Client::at(line, 2);
+    mqtt_acl_identity(
         rest(line, 7),
-        field(line, 2),
-        given_flag(name),
-        lent(name),
-        given_flag(password),
-        lent(password),
-        given_flag(address),
-        lent(address),
-        given_flag(protocol),
-        number(protocol),
-    );
-    verdict(Kind::Identity, is_digit(answer as u32, field(line, 1)))
+        client.id,
+        client.name.has,
+        client.name.text,
+        client.password.has,
+        client.password.text,
+        client.address.has,
+        client.address.text,
+        client.protocol.has,
+        number(client.protocol.text),
+    )
 }
 
-// The number that a question is answered by against the recorded word and digit.
-fn answered(line: &[u8], answer: u32) -> Judged
-    ensures { result ≡ spec.verdict Kind.OnStore (spec.is_answer answer (field 2 line.now) (field 3 line.now)) }
+// Is the answer to a question on a store the recorded word and digit?
+#[tactic(auto, unfolding(crate::specs::Judging::is_answer))]
+fn is_answer(answer: u32, word: &[u8], recorded: &[u8]) -> bool
+    ensures { result ≡ spec.is_answer answer word.now recorded.now }
 {
-    if !is_digit(answer / 16, field(line, 3)) {
-        return Judged::Differs(Kind::OnStore);
-    }
-    verdict(Kind::OnStore, is_word((answer % 16) as u8, field(line, 2)))
+    is_digit(answer / 16, recorded) && is_word(answer % 16, word)
 }
 
-// A line `Q`, question, word and digit of the answer, earlier code, client id, name, password, address, protocol, topic, QoS or disconnect
-// flag, rules.
-fn question_line(line: &[u8]) -> Judged
-    ensures { result ≡ spec.asked line.now Kind.OnStore }
-{
-    let mut store = [0u8; STORE];
-    if !open_rules(rest(line, 12), &mut store) {
-        return Judged::Malformed;
+impl Kind {
+    // The letter that names the kind.
+    #[tactic(auto, unfolding(crate::specs::Judging::kind_of, text::specs::Text::same))]
+    pub fn letter(self) -> char
+        ensures { spec.kind_of (result ∷ []) ≡ Some self }
+    {
+        match self {
+            Kind::Valid => 'V',
+            Kind::Tree => 'T',
+            Kind::Plain => 'P',
+            Kind::Document => 'J',
+            Kind::Within => 'L',
+            Kind::RuleLine => 'R',
+            Kind::Identity => 'I',
+            Kind::OnStore => 'Q',
+            Kind::Client => 'C',
+        }
     }
-    let question = field(line, 1);
-    if text::same(question, b"connect") {
-        return answered(line, connect_answer(line, &store));
+
+    // Does a line of this kind agree? `V`, text, answer; `T` and `P`, filter, text, answer; `J` and `L`, answer, JSON line; `R`, number of
+    // document 01 or 0, rule line; `Q`, question, word and digit of the answer, earlier code, client id, name, password, address, protocol,
+    // topic, QoS or disconnect flag, rules; `C`, answer, and a question that `clients` asks.
+    #[tactic(auto, unfolding(crate::specs::Judging::agrees))]
+    fn agrees(self, line: &[u8]) -> Option<bool>
+        ensures { result ≡ spec.agrees line.now self }
+    {
+        match self {
+            Kind::Valid => compared(valid_filter(field(line, 1)), rest(line, 2)),
+            Kind::Tree => compared(tree_match(field(line, 1), field(line, 2)), rest(line, 3)),
+            Kind::Plain => compared(plain_match(field(line, 1), field(line, 2)), rest(line, 3)),
+            Kind::Document => compared(is_document(rest(line, 2)), field(line, 1)),
+            Kind::Within => compared(is_document_within(rest(line, 2), LIMIT), field(line, 1)),
+            Kind::RuleLine => Some(is_digit(
+                u32::from(mqtt_acl_rule_refusal(rest(line, 2))),
+                field(line, 1),
+            )),
+            Kind::Identity => Some(is_digit(u32::from(identity_answer(line)), field(line, 1))),
+            Kind::OnStore => {
+                let answer = store_answer(line)?;
+                Some(is_answer(answer, field(line, 2), field(line, 3)))
+            }
+            Kind::Client => Some(is_packed(client_answer(line), field(line, 1))),
+        }
     }
-    if text::same(question, b"subscribe") {
-        return answered(line, subscribe_answer(line, &store));
-    }
-    if text::same(question, b"publish") {
-        return answered(line, publish_answer(line, &store));
-    }
-    Judged::Malformed
 }
 
-// A line `C`, answer, and a question that `clients` asks.
-fn client_line(line: &[u8]) -> Judged
-    ensures { result ≡ spec.asked line.now Kind.Client }
-{
-    let answer = client_answer(line);
-    verdict(Kind::Client, is_packed(answer, field(line, 1)))
-}
-
-// Does the line's answer agree with what this port answers?
-pub fn judge(line: &[u8]) -> Judged
+// What the line comes to; none, where it is malformed.
+#[tactic(auto, unfolding(crate::specs::Judging::judge, crate::specs::Judging::judge_as))]
+pub fn judge(line: &[u8]) -> Option<Judged>
     ensures { result ≡ spec.judge line.now }
 {
-    match kind_of(field(line, 0)) {
-        None => Judged::Malformed,
-        Some(kind) => match kind {
-            Kind::Valid => valid_line(line),
-            Kind::Tree => tree_line(line),
-            Kind::Plain => plain_line(line),
-            Kind::Document => document_line(line),
-            Kind::Within => within_line(line),
-            Kind::RuleLine => rule_line(line),
-            Kind::Identity => identity_line(line),
-            Kind::OnStore => question_line(line),
-            Kind::Client => client_line(line),
-        },
-    }
+    let kind = kind_of(field(line, 0))?;
+    let agrees = kind.agrees(line)?;
+    Some(Judged { kind, agrees })
 }

@@ -1,56 +1,40 @@
 // How many lines of each kind there were, and how many of them agree. `input` counts each line here, and prints the tallies at
 // the end.
-ghost use Rattle.std.specs.Prelude.{◌≡◌, ◌<◌};
+ghost use Rattle.std.specs.Prelude.{◌≡◌};
 ghost use Rattle.vectors.specs.Tallies as spec;
 
-use crate::input::say;
-use crate::judging::{Judged, Kind};
+use crate::judging::{ALL, Judged, KINDS};
 
-// The number of kinds, and the letter of each, in the order of `place`.
-const KINDS: usize = 9;
-
-const LETTERS: [u8; KINDS] = [b'V', b'T', b'P', b'J', b'L', b'R', b'I', b'Q', b'C'];
-
-// Where a kind is counted.
-fn place(kind: Kind) -> usize
-    ensures { (result ≡ spec.place kind) × (result < spec.kinds) }
-{
-    match kind {
-        Kind::Valid => 0,
-        Kind::Tree => 1,
-        Kind::Plain => 2,
-        Kind::Document => 3,
-        Kind::Within => 4,
-        Kind::RuleLine => 5,
-        Kind::Identity => 6,
-        Kind::OnStore => 7,
-        Kind::Client => 8,
-    }
+// The lines of a kind: those that agree, and all.
+#[derive(Clone, Copy, Debug, PartialEq, Eq)]
+pub struct Tally {
+    pub agreed: u64,
+    pub asked: u64,
 }
 
-// One more of this kind.
-fn one_more(mut counts: [u64; KINDS], kind: Kind) -> [u64; KINDS]
-    ensures { result ≡ spec.one_more counts kind }
-{
-    let i = place(kind);
-    counts[i] = std::num::wrapping_add_u64(counts[i], 1);
-    counts
-}
-
-// The lines so far, by kind: those that agree, and all.
-#[derive(Clone, Copy)]
+// The lines so far: those of a kind at its place in the order in which the kinds are declared.
+#[derive(Clone, Copy, Debug, PartialEq, Eq)]
 pub struct Tallies {
-    pub agreed: [u64; KINDS],
-    pub asked: [u64; KINDS],
+    pub by_kind: [Tally; KINDS],
 }
 
-// Writes one tally, as `V 12 of 12 agree`.
-fn print_one(rt: &impl Print, letter: u8, agreed: u64, asked: u64) {
-    say(rt, &[letter, b' ']);
-    let _ = rt.print(agreed);
-    say(rt, b" of ");
-    let _ = rt.print(asked);
-    say(rt, b" agree\n");
+impl Tally {
+    // One more line.
+    #[tactic(auto, unfolding(crate::specs::Tallies::more))]
+    fn more(self, agrees: bool) -> Tally
+        ensures { result ≡ spec.more self agrees }
+    {
+        Tally {
+            agreed: self.agreed.wrapping_add(u64::from(agrees)),
+            asked: self.asked.wrapping_add(1),
+        }
+    }
+
+    // Writes the tally, as `V 12 of 12 agree`.
+    fn print(self, rt: &impl Print, letter: char) {
+        let Tally { agreed, asked } = self;
+        let _ = println!(rt; "{letter} {agreed} of {asked} agree");
+    }
 }
 
 impl Tallies {
@@ -59,37 +43,28 @@ impl Tallies {
         ensures { result ≡ spec.no_tallies }
     {
         Tallies {
-            agreed: [0; KINDS],
-            asked: [0; KINDS],
+            by_kind: [Tally {
+                agreed: 0,
+                asked: 0,
+            }; KINDS],
         }
     }
 
-    // The tallies with one more line.
-    pub fn count(self, judged: Judged) -> Tallies
-        ensures { result ≡ spec.counted self judged }
+    // One more line. A malformed one is of no kind.
+    #[tactic(auto, unfolding(crate::specs::Tallies::counted))]
+    pub fn count(&mut self, judged: Option<Judged>)
+        ensures { self.new ≡ spec.counted self.old judged }
     {
-        let agreed = self.agreed;
-        let asked = self.asked;
-        match judged {
-            Judged::Agrees(kind) => {
-                let agreed = one_more(agreed, kind);
-                let asked = one_more(asked, kind);
-                Tallies { agreed, asked }
-            }
-            Judged::Differs(kind) => {
-                let asked = one_more(asked, kind);
-                Tallies { agreed, asked }
-            }
-            Judged::Malformed => self,
+        if let Some(Judged { kind, agrees }) = judged {
+            let place = kind as usize;
+            self.by_kind[place] = self.by_kind[place].more(agrees);
         }
     }
 
     // Writes the tallies, a line a kind.
-    pub(crate) fn print(self, rt: &impl Print) {
-        let agreed = self.agreed;
-        let asked = self.asked;
-        for i in 0..KINDS {
-            print_one(rt, LETTERS[i], agreed[i], asked[i]);
+    pub(crate) fn print(&self, rt: &impl Print) {
+        for kind in ALL {
+            self.by_kind[kind as usize].print(rt, kind.letter());
         }
     }
 }
