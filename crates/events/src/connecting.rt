@@ -12,7 +12,7 @@ ghost use Rattle.events.specs.Event as event;
 ghost use Rattle.events.specs.Templates as templates;
 ghost use Rattle.events.specs.Pushes as spec;
 
-use crate::templates::{fill_in, topics};
+use crate::templates::{fill_topic, topics};
 use crate::{FilledTopic, Table};
 use json_text::splitting::Lines;
 use rule::{ID, Refusal, TEXT};
@@ -99,7 +99,7 @@ fn push_rows(
     for line in Lines::new(rules) {
         for p in topics(line) {
             let mut text = [0u8; TEXT];
-            let topic = fill_in(line, p, who.id, who.name, &mut text);
+            let topic = fill_topic(line, p, who.id, who.name, &mut text);
             match push_topic(part, used, table, rule, who, topic, &text) {
                 Pushed::Present => {}
                 Pushed::Added => {
@@ -142,7 +142,7 @@ fn topic_over(line: &[u8], topic: usize, who: Connecting) -> bool
 {
     let mut text = [0u8; TEXT];
     matches!(
-        fill_in(line, topic, who.id, who.name, &mut text),
+        fill_topic(line, topic, who.id, who.name, &mut text),
         FilledTopic::TooLong
     )
 }

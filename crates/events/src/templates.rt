@@ -1,13 +1,10 @@
-// The templates of a rule text, filled for a client, in rule and template order: topics by their places in a line. The public functions take a
-// line by the place in the text where it begins.
+// The templates of a rule, filled for a client, in the order in which they stand: topics by their places in the rule's line.
 ghost use Rattle.std.specs.Option.{option_copied};
 ghost use Rattle.std.specs.Prelude.{◌≡◌, length};
-ghost use Rattle.json_text.specs.Lines.{line_at};
 ghost use Rattle.events.specs.Templates as spec;
 
 use crate::FilledTopic;
-use json_text::access::{Elements, first_element, next_item};
-use json_text::splitting::line_at;
+use json_text::access::{Elements, first_element};
 use rule::Topic;
 use rule::fill::fill;
 use rule::read::read_rule;
@@ -21,7 +18,7 @@ fn first_in(line: &[u8]) -> Option<usize>
 }
 
 // The topics of a line's rule, one after another.
-pub(crate) fn topics(line: &[u8]) -> Elements<'_>
+pub fn topics(line: &[u8]) -> Elements<'_>
     ensures of_line { result.line ≡ line.entry }
     ensures from_first { result.next ≡ spec.first_topic line.now }
 {
@@ -29,21 +26,6 @@ pub(crate) fn topics(line: &[u8]) -> Elements<'_>
         line,
         next: first_in(line),
     }
-}
-
-// The first topic of the rule whose line begins at `at`.
-pub fn first_topic(rules: &[u8], at: usize) -> Option<usize>
-    ensures { result ≡ spec.first_topic (line_at rules.now at) }
-{
-    first_in(line_at(rules, at))
-}
-
-// The topic behind the one at this place.
-#[tactic(auto, unfolding(crate::specs::Templates::next_topic))]
-pub fn next_topic(rules: &[u8], at: usize, topic: usize) -> Option<usize>
-    ensures { result ≡ spec.next_topic (line_at rules.now at) topic }
-{
-    next_item(line_at(rules, at), topic)
 }
 
 // What filling a template comes to. `eq` is a value, whether the topic stands under `eq`, and not a switch.
@@ -59,7 +41,7 @@ fn filled_as(eq: bool, filling: Option<usize>) -> FilledTopic
 }
 
 // The topic at this place of a line, if it is a template, filled into the front of a buffer of 256 bytes.
-pub(crate) fn fill_in(
+pub fn fill_topic(
     line: &[u8],
     topic: usize,
     id: &[u8],
@@ -77,19 +59,4 @@ pub(crate) fn fill_in(
         Topic::EqTemplate(p) => filled_as(true, fill(line, p, id, name, buffer)),
         _ => FilledTopic::Static,
     }
-}
-
-// The same of the line that begins at `at`.
-pub fn fill_topic(
-    rules: &[u8],
-    at: usize,
-    topic: usize,
-    id: &[u8],
-    name: Option<&[u8]>,
-    buffer: &mut [u8],
-) -> FilledTopic
-    ensures value { result ≡ spec.topic_filling (length buffer.old) id.now (option_copied name.entry) (spec.template_at (line_at rules.now at) topic) }
-    ensures buffer_after { buffer.new ≡ spec.topic_filled buffer.old id.now (option_copied name.entry) (spec.template_at (line_at rules.now at) topic) }
-{
-    fill_in(line_at(rules, at), topic, id, name, buffer)
 }

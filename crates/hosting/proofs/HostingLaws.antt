@@ -17,9 +17,8 @@ use Rattle.text.proofs.Laws.{and_split, or_split, isnt, same_itself, begins-take
 use Rattle.topic.specs.Topic.{Level, plus, hash, levels, is_only, is_plus, is_hash, metadata, ends, takes_level, takes, dollar_rule, levels_match, levels_if, checked_levels, tree_match, valid_filter}
 use Rattle.table.specs.Table.{some_row, keep, add, add_all, change}
 use Rattle.table.proofs.TableLaws.{some_keep, some_map, some_on, present, none as none_rows, none_at, none_of, member, length-keep, some_add_all}
-use Rattle.json_text.specs.Lines.{lines, line_at, lf, first_line, with_byte, extend_line}
+use Rattle.json_text.specs.Lines.{lines, lf, with_byte, extend_line}
 use Rattle.json_text.specs.Access.{next_item, places, places_from}
-use Rattle.json_text.proofs.LineLaws.{lines_here}
 use Rattle.rule.specs.Limits.{text_limit}
 use Rattle.rule.specs.Rule as spec
 use Rattle.rule.specs.Rule.{Meaning, TopicOf, is_template, topic_means, topic_of}
@@ -262,23 +261,6 @@ module _ (eq : Bool) (line : List ℕ) where
   counted_topics n e c = omega (arith, c.all, ap (sum_by (count_at eq line)) e)
 
 -- ---- the loop over the lines
-
--- a line has no LF
-first_again : (text : List ℕ) → first_line (first_line text) ≡ first_line text
-unfolding first_line
-first_again [] = refl
-first_again (b ∷ text) = at (eqb b lf) refl (first_again text)
-  where
-    at : (e : Bool) → eqb b lf ≡ e → first_line (first_line text) ≡ first_line text → first_line (cond e [] (b ∷ first_line text)) ≡ cond e [] (b ∷ first_line text)
-    at e q h = grind arith
-
-pub line_whole : (text : List ℕ) {line : List ℕ} {rest : List (List ℕ)} → lines text ≡ line ∷ rest → line_at line 0 ≡ line
-unfolding lines line_at
-line_whole [] e = cc
-line_whole (b ∷ text) {line = line} e =
-    let here = lines_here (b ∷ text) 0 (omega arith) in
-    let is : first_line (b ∷ text) ≡ line = cc in
-    rw (← is) (first_again (b ∷ text))
 
 -- a line with its LF takes no more bytes than the text, but for an LF that the last may lack
 abbrev pub room_of : List (List ℕ) → ℕ

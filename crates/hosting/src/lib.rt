@@ -3,13 +3,11 @@
 #![tactic(auto)]
 
 ghost use Rattle.std.specs.Prelude.{◌≡◌, ◌+◌, ◌≤◌, true, false, length};
-ghost use Rattle.json_text.specs.Lines.{line_at};
 ghost use Rattle.store.specs.View.{view};
 ghost use Rattle.hosting.specs.Hosting as spec;
 ghost use Rattle.hosting.specs.Walk as walk;
 
-use events::templates::first_topic;
-use json_text::access::Elements;
+use events::templates::topics;
 use json_text::splitting::Lines;
 use rule::Topic;
 use rule::topic_list::topic_at;
@@ -58,19 +56,14 @@ fn counted(topic: Option<Topic>) -> Templates
     }
 }
 
-// The templates of a rule by its line, which has no LF.
+// The templates of a rule by its line.
 fn line_templates(line: &[u8]) -> Templates
-    requires { line_at line.now 0 ≡ line.now }
     ensures value { result ≡ spec.line_templates line.now }
     ensures in_bounds { (result.filters ≤ length line.now + 1) × (result.eqs ≤ length line.now + 1) }
 {
     let mut filters = 0;
     let mut eqs = 0;
-    let topics = Elements {
-        line,
-        next: first_topic(line, 0),
-    };
-    for p in topics {
+    for p in topics(line) {
         let here = counted(topic_at(line, p));
         filters += here.filters;
         eqs += here.eqs;

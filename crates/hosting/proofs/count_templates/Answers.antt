@@ -3,17 +3,13 @@ use Rattle.std.proofs.Common.{◌≡◌, ap, arith}
 use mathlib.Core.Bool.{true, false}
 use Rattle.hosting.specs.Hosting.{line_templates}
 use Rattle.hosting.specs.declared.Templates.{Templates}
-use Rattle.hosting.proofs.HostingLaws.{line_whole, counted_none, counted_fits, counted_line, counted_all, both_counts}
+use Rattle.hosting.proofs.HostingLaws.{counted_none, counted_fits, counted_line, counted_all, both_counts}
 use Rattle.hosting.proofs.count_templates.Goals as goal
 
 pub loop-line-init : goal.loop-line-init
 loop-line-init c =
     let whole : c.into_iter-line-iterator.result.rest.now ≡ c.args.rules.now = cc (c.into_iter-line-iterator.ensures.into_iter_gives, c.new-line-items.ensures) in
     (tt, tt, rw whole (counted_none false c.args.rules.now), rw whole (counted_none true c.args.rules.now))
-
-pub line_templates-here-requires : goal.line_templates-here-requires
-line_templates-here-requires c =
-    line_whole _ c.in-Some.ensures.steps
 
 pub overflow_add-filters : goal.overflow_add-filters
 overflow_add-filters c =

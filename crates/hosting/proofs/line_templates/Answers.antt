@@ -2,7 +2,6 @@
 -- Assumes nothing.
 use Rattle.std.proofs.Common.{ap, ◌∙◌, arith}
 use mathlib.Core.Bool.{true, false}
-use Rattle.events.specs.Templates.{first_topic}
 use Rattle.hosting.specs.declared.Templates.{Templates}
 use Rattle.hosting.proofs.HostingLaws.{counted_first, counted_topic, counted_topics, count_small, both_here}
 use Rattle.hosting.proofs.line_templates.Goals as goal
@@ -10,8 +9,8 @@ use Rattle.hosting.proofs.line_templates.Goals as goal
 pub loop-p-init : goal.loop-p-init
 loop-p-init c =
     let line = c.args.line.now in
-    let is = c.first_topic.ensures ∙ ap first_topic c.requires in
-    rw c.into_iter-p-iterator.ensures.into_iter_gives (tt, tt, counted_first false line is, counted_first true line is)
+    let is = c.topics-p-items.ensures.from_first in
+    rw (c.into_iter-p-iterator.ensures.into_iter_gives, c.topics-p-items.ensures.of_line) (tt, tt, counted_first false line is, counted_first true line is)
 
 pub overflow_add-filters : goal.overflow_add-filters
 overflow_add-filters c =

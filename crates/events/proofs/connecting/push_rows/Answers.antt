@@ -25,26 +25,26 @@ loop-p-init c =
 pub overflow_add-used : goal.overflow_add-used
 overflow_add-used c =
     let row = topic_row c.args.table c.args.who.session c.args.who.id.now (option_copied c.args.who.name) c.args.rules.now c.args.earlier c.args.part.now c.loop-line.rule c.in-Some.line.now _ (replicate 256 0)
-    c.in-Some-p.ensures.steps c.loop-p.invariant.2 c.args.who.short (length-replicate {A = ℕ} 256 0) c.fill_in-topic.ensures.value c.fill_in-topic.ensures.buffer_after in
+    c.in-Some-p.ensures.steps c.loop-p.invariant.2 c.args.who.short (length-replicate {A = ℕ} 256 0) c.fill_topic-topic.ensures.value c.fill_topic-topic.ensures.buffer_after in
     omega (arith, row_room _ _ _ _ _ _ _ row (c.push_topic.ensures.value, c.push_topic.ensures.part_after) c.push_topic.auto.part (topic_long _ _ _ _ _ _) c.in-Added.is)
 
 pub returns-in-Full : goal.returns-in-Full
 returns-in-Full c =
     let row = topic_row c.args.table c.args.who.session c.args.who.id.now (option_copied c.args.who.name) c.args.rules.now c.args.earlier c.args.part.now c.loop-line.rule c.in-Some.line.now _ (replicate 256 0)
-    c.in-Some-p.ensures.steps c.loop-p.invariant.2 c.args.who.short (length-replicate {A = ℕ} 256 0) c.fill_in-topic.ensures.value c.fill_in-topic.ensures.buffer_after in
+    c.in-Some-p.ensures.steps c.loop-p.invariant.2 c.args.who.short (length-replicate {A = ℕ} 256 0) c.fill_topic-topic.ensures.value c.fill_topic-topic.ensures.buffer_after in
     let whole = row_full _ _ _ _ _ _ _ row (c.push_topic.ensures.value, c.push_topic.ensures.part_after) c.push_topic.auto.part c.in-Full.is in
     record { value = whole.0; part_after = whole.1 }
 
 pub loop-p-preserved-in-Present : goal.loop-p-preserved-in-Present
 loop-p-preserved-in-Present c =
     let row = topic_row c.args.table c.args.who.session c.args.who.id.now (option_copied c.args.who.name) c.args.rules.now c.args.earlier c.args.part.now c.loop-line.rule c.in-Some.line.now _ (replicate 256 0)
-    c.in-Some-p.ensures.steps c.loop-p.invariant.2 c.args.who.short (length-replicate {A = ℕ} 256 0) c.fill_in-topic.ensures.value c.fill_in-topic.ensures.buffer_after in
+    c.in-Some-p.ensures.steps c.loop-p.invariant.2 c.args.who.short (length-replicate {A = ℕ} 256 0) c.fill_topic-topic.ensures.value c.fill_topic-topic.ensures.buffer_after in
     (tt, tt, row_present _ _ _ _ _ _ _ row (c.push_topic.ensures.value, c.push_topic.ensures.part_after) c.push_topic.auto.part c.in-Present.is)
 
 pub loop-p-preserved : goal.loop-p-preserved
 loop-p-preserved c =
     let row = topic_row c.args.table c.args.who.session c.args.who.id.now (option_copied c.args.who.name) c.args.rules.now c.args.earlier c.args.part.now c.loop-line.rule c.in-Some.line.now _ (replicate 256 0)
-    c.in-Some-p.ensures.steps c.loop-p.invariant.2 c.args.who.short (length-replicate {A = ℕ} 256 0) c.fill_in-topic.ensures.value c.fill_in-topic.ensures.buffer_after in
+    c.in-Some-p.ensures.steps c.loop-p.invariant.2 c.args.who.short (length-replicate {A = ℕ} 256 0) c.fill_topic-topic.ensures.value c.fill_topic-topic.ensures.buffer_after in
     (tt, tt, row_added _ _ _ _ _ _ _ row (c.push_topic.ensures.value, c.push_topic.ensures.part_after) c.push_topic.auto.part c.in-Added.is)
 
 pub loop-line-preserved : goal.loop-line-preserved

@@ -8,9 +8,9 @@ use Rattle.events.proofs.connecting.topic_over.Goals as goal
 pub returns-in-TooLong : goal.returns-in-TooLong
 unfolding topic_over
 returns-in-TooLong c =
-    sym (over_by 0 c.args.who.id.now (option_copied c.args.who.name) c.args.line.now c.args.topic c.args.who.short refl c.fill_in.ensures.value ∙ over_is c.in-TooLong.is)
+    sym (over_by 0 c.args.who.id.now (option_copied c.args.who.name) c.args.line.now c.args.topic c.args.who.short refl c.fill_topic.ensures.value ∙ over_is c.in-TooLong.is)
 
 pub returns-in_default : goal.returns-in_default
 unfolding topic_over
 returns-in_default c =
-    sym (over_by 0 c.args.who.id.now (option_copied c.args.who.name) c.args.line.now c.args.topic c.args.who.short refl c.fill_in.ensures.value ∙ over_not _ c.in_default.not-TooLong)
+    sym (over_by 0 c.args.who.id.now (option_copied c.args.who.name) c.args.line.now c.args.topic c.args.who.short refl c.fill_topic.ensures.value ∙ over_not _ c.in_default.not-TooLong)

@@ -1,11 +1,11 @@
--- `events::templates::fill_in` meets its contract: by what `topic_at` answers, since the text of the topic stands at its place.
+-- `events::templates::fill_topic` meets its contract: by what `topic_at` answers, since the text of the topic stands at its place.
 -- Assumes nothing.
 use mathlib.Core.Path.{ap, ◌∙◌}
 use mathlib.Core.Bool.{true, false}
 use Rattle.std.specs.Option.{option_copied}
 use Rattle.std.specs.Prelude.{Some}
 use Rattle.events.proofs.TemplateWalk.{fills_template, fills_nowhere, fills_none}
-use Rattle.events.proofs.templates.fill_in.Goals as goal
+use Rattle.events.proofs.templates.fill_topic.Goals as goal
 
 pub returns-in_default : goal.returns-in_default
 returns-in_default c =
