@@ -34,5 +34,5 @@ pub fn is_packed(answer: u64, recorded: &[u8]) -> bool
     ensures { result ≡ spec.is_packed answer recorded.now }
 {
     let parts = [answer % 16 + 48, answer / 16 % 256 + 48, answer / 4096 + 48];
-    matches!(recorded, [what, value, line] if [u64::from(*what), u64::from(*value), u64::from(*line)] == parts)
+    matches!(recorded, [what, value, line] if [*what, *value, *line].map(u64::from) == parts)
 }

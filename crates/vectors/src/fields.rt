@@ -5,10 +5,12 @@ ghost use Rattle.vectors.specs.Fields as spec;
 
 // What stands behind the first `n` TABs of the line; nothing where it has fewer.
 pub fn rest(line: &[u8], n: usize) -> &[u8]
-    requires { n < 2 ^ 64 - 1 }
     ensures { result.now ≡ spec.rest n line.now }
 {
-    line.splitn(n + 1, |b| *b == b'\t').nth(n).unwrap_or(b"")
+    let Some(parts) = n.checked_add(1) else {
+        return b"";
+    };
+    line.splitn(parts, |b| *b == b'\t').nth(n).unwrap_or(b"")
 }
 
 // The field of the line behind `n` TABs; an empty one where it has fewer.
@@ -77,7 +79,7 @@ pub struct Client<'a> {
 impl<'a> Client<'a> {
     // The client in the five fields from the one behind `n` TABs on.
     #[tactic(auto, unfolding(crate::specs::Fields::client, crate::specs::Fields::text_in, mqtt_acl::specs::Rules::yes, mqtt_acl::specs::Rules::flag))]
-    pub fn at(line: &'a [u8], n: usize) -> Client<'a>
+    pub(crate) fn at(line: &'a [u8], n: usize) -> Client<'a>
         requires { n < 2 ^ 64 - 5 }
         ensures seen { (number : List ℕ → ℕ) → spec.seen number result ≡ spec.client number n line.now }
         ensures protocol { result.protocol.text.now ≡ spec.lent (spec.field (n + 4) line.now) }

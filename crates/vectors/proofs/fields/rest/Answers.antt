@@ -34,6 +34,17 @@ rest_at n (b ∷ xs) y left h t =
     let e : is_tab b ≡ false = h 0 0 (omega arith) in
     rw e (rest_at n xs y left (λ k d l. h (suc k) d (omega arith)) t)
 
+-- behind more TABs than the line has bytes nothing stands
+rest_past : (n : ℕ) (xs : List ℕ) → length xs < n → rest n xs ≡ []
+unfolding rest
+rest_past zero xs h = absurd (omega arith)
+rest_past (suc n) [] h = refl
+rest_past (suc n) (b ∷ xs) h = by (is_tab b) (rest_past n xs (omega arith)) (rest_past (suc n) xs (omega arith))
+  where
+    by : (e : Bool) → rest n xs ≡ [] → rest (suc n) xs ≡ [] → cond e (rest n xs) (rest (suc n) xs) ≡ []
+    by true one other = one
+    by false one other = other
+
 -- one part, and what is left behind it
 rest_step : (n : ℕ) (line part left : List ℕ) (done : Bool) → MatchBool done (line ≡ part) ((y : ℕ) × (line ≡ part ++ (y ∷ left))) → IsFirstMatchOrLen is_tab line (length part)
     → rest (suc n) line ≡ cond done [] (rest n left)
@@ -93,9 +104,13 @@ module _ {F : Type 0} (g : Mut F (Bor ℕ × Unit {0}) Bool) where
       fewer m n None l = omega arith
       fewer m n (Some z) l = omega arith
 
+pub returns-in_default : goal.returns-in_default
+returns-in_default c = sym (rest_past c.args.n c.args.line.now (search rules))
+
 pub returns : goal.returns
 returns c =
+    let parts : c.in-Some.parts ≡ c.args.n + 1 = search rules in
     let key = always_returns_same _ (λ a r. r ≡ is_tab a.0.now) _ (λ a r q k. (search (rules, tests), search (rules, tests))) in
     ap (λ x. x.now) c.unwrap_or.ensures ∙ (now_or c.nth.result _
-    ∙ (left_behind _ c.args.n c.nth.ensures.ran.0 c.splitn.result c.nth.ensures.ran.1.0 c.nth.new.self c.nth.result c.splitn.ensures.count c.splitn.ensures.done key c.nth.ensures.ran.1.1 c.nth.ensures.ran.1.2 c.nth.ensures.ran.2
+    ∙ (left_behind _ c.args.n c.nth.ensures.ran.0 c.splitn.result c.nth.ensures.ran.1.0 c.nth.new.self c.nth.result (c.splitn.ensures.count ∙ parts) c.splitn.ensures.done key c.nth.ensures.ran.1.1 c.nth.ensures.ran.1.2 c.nth.ensures.ran.2
     ∙ ap (rest c.args.n) c.splitn.ensures.rest))
