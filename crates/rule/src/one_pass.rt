@@ -266,8 +266,8 @@ pub fn users_end(line: &[u8], allow: bool, at: usize) -> Option<Read<Users>>
 fn from_users(line: &[u8], access: Read<bool>) -> Option<Rule>
     ensures { IfSome result (spec.FromUsers line.now access.value access.next) }
 {
-    let allow = access.value;
-    let users = users_end(line, allow, access.next)?;
+    let Read { value: allow, next } = access;
+    let users = users_end(line, allow, next)?;
     match separator(line, users.next, b']')? {
         Separator::Comma(next) => from_control(line, allow, users.value, next),
         Separator::Close(next) => at_end(
