@@ -30,7 +30,8 @@ pub enum Action {
     Subscribe,
 }
 
-// What is asked, but for the topic: a subscribe with its QoS, a publish with its QoS and whether it is retained.
+// What is asked, but for the topic: a subscribe with its QoS, a publish with its QoS and whether it is retained. No `Option`: neither is the
+// absence of the other, and both have a QoS.
 #[derive(Clone, Copy, Debug, PartialEq, Eq)]
 pub enum Asked {
     Subscribe(u64),

@@ -1,4 +1,5 @@
-// A question line of the program `client`, behind its first line and the client's rules.
+// A question line of the program `client`, behind its first line and the client's rules. Client and rules stay two parameters, since
+// `authinfo` takes them so, and these functions hand them on.
 ghost use Rattle.std.specs.Prelude.{◌≡◌, length};
 ghost use Rattle.std.specs.Option.{unwrap_or};
 ghost use Rattle.json_text.specs.Access.{decoded_into};

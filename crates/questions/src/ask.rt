@@ -1,5 +1,6 @@
 // The three questions on a store: number 1 and 2 by their arguments, 3 by the store, then kept, then the deciding rule.
-// Each writes these steps out: a function for what they share would have to answer by more cases than it saves lines.
+// Each writes these steps out: a function for what they share would have to answer by more cases than it saves lines. Store, earlier code and
+// client come one by one, as the C interface hands them over.
 ghost use Rattle.std.specs.Prelude.{◌≡◌, None, Some};
 ghost use Rattle.std.specs.Option.{option_copied};
 ghost use Rattle.store.specs.Store.{View};
