@@ -60,7 +60,8 @@ fn piece<'a>(text: &'a [u8], pattern: &[u8], new: &'a [u8]) -> (&'a [u8], &'a [u
     text.split_at(kept)
 }
 
-// The length of the text with `new` for each occurrence of the pattern; none, where it is over `room`.
+// The length of the text with `new` for each occurrence of the pattern; none, where it is over `room`. Text, pattern and `new` stay three
+// parameters, as every caller has them and `replace` of the specs takes them.
 #[tactic(auto, using(crate::proofs::Laws::replace_nothing, crate::proofs::Laws::fitted_fits))]
 pub fn replaced_length(text: &[u8], pattern: &[u8], new: &[u8], room: usize) -> Option<usize>
     ensures { result ≡ spec.fitted (spec.replace pattern.now new.now text.now) room }
