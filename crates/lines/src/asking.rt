@@ -22,6 +22,8 @@ use rule::agreement::Client;
 use rule::{LINE, Refusal};
 use text::front;
 
+// What is said of a connect. Three functions for the three questions: a trait would share the arm of a refusal alone, and each answer would
+// need its decision as a definition.
 #[tactic(auto, unfolding(crate::specs::Said::reply_said, crate::specs::Said::decision_said, crate::specs::Said::connected, crate::specs::Said::refused_with, questions::specs::Answers::connect_says))]
 fn connect_said(answer: Result<ConnectAnswer, Refusal>) -> Said
     ensures { result ≡ said.reply_said (answers.connect_says answer) }
@@ -35,6 +37,7 @@ fn connect_said(answer: Result<ConnectAnswer, Refusal>) -> Said
     }
 }
 
+// What is said of a subscribe.
 #[tactic(auto, unfolding(crate::specs::Said::reply_said, crate::specs::Said::decision_said, crate::specs::Said::connected, crate::specs::Said::refused_with, questions::specs::Answers::subscribe_says))]
 fn subscribe_said(answer: Result<SubscribeAnswer, Refusal>) -> Said
     ensures { result ≡ said.reply_said (answers.subscribe_says answer) }
@@ -47,6 +50,7 @@ fn subscribe_said(answer: Result<SubscribeAnswer, Refusal>) -> Said
     }
 }
 
+// What is said of a publish.
 #[tactic(auto, unfolding(crate::specs::Said::reply_said, crate::specs::Said::decision_said, crate::specs::Said::connected, crate::specs::Said::refused_with, questions::specs::Answers::publish_says))]
 fn publish_said(answer: Result<PublishAnswer, Refusal>) -> Said
     ensures { result ≡ said.reply_said (answers.publish_says answer) }

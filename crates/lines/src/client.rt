@@ -29,6 +29,7 @@ fn no_question() -> Said
     refused_at(Refusal::NotJson, 0)
 }
 
+// What is said of a subscribe, and of a publish.
 #[tactic(auto, unfolding(crate::specs::Client::reply_said, crate::specs::Client::decision_said, crate::specs::Said::refused_with, authinfo::specs::Answers::subscribe_says))]
 fn subscribe_said(answer: Result<SubscribeAnswer, Fault>) -> Said
     ensures { result ≡ client.reply_said (answers.subscribe_says answer) }
