@@ -25,12 +25,13 @@ use Rattle.rule.specs.declared.Fault.{Fault}
 use Rattle.rule.specs.Agreement.{identity_at}
 use Rattle.rule.specs.Identity.{Client}
 use Rattle.rule.specs.Places.{value_of, placed_rule, fourth_of, rule_answer}
-use Rattle.rule.specs.Front.{item_behind, FrontTo, RestFrom, EqTo}
+use Rattle.rule.specs.Front.{item_behind, FrontTo, RestFrom, eq_of, EqTo}
+use Rattle.rule.specs.declared.EqText.{EqText}
 use Rattle.rule.specs.declared.Refusal.TheVariants.{TooLong}
 use Rattle.rule.specs.declared.Control.{Control}
 use Rattle.rule.specs.declared.Users.{Users}
 use Rattle.rule.specs.declared.Rule.{Rule}
-use Rattle.rule.proofs.OnePassLaws.{value_there, eq_object, eq_value, eq_topic}
+use Rattle.rule.proofs.OnePassLaws.{value_there, eq_to, eq_string, eq_object, eq_value, eq_topic}
 use Rattle.rule.proofs.FrontLaws.{next_behind, read_here, Fronted, front_is}
 use Rattle.store.specs.Store.{over}
 use Rattle.store.specs.View.{faultless}
@@ -94,6 +95,15 @@ module _ (topic line : List ℕ) (at : ℕ) where
   pub passed_plain : {end : ℕ} {b : Bool} {next : Option ℕ} → Plain line at end → text_agrees topic (take (end - (at + 1)) (drop (at + 1) line)) ≡ b → item_behind line (end + 1) ≡ next
       → passed_topic topic line at ≡ cond b TopicAgrees (Onward next)
   passed_plain p e q = passed_by (plain_agrees p ∙ e) (next_behind line at (plain_value depth_limit line at p) ∙ q)
+
+-- the quotes of a text under `eq`, and where they stand, for `using`
+pub eq_ahead : (line : List ℕ) (at : ℕ) (eq : EqText) → eq_of line at ≡ Some eq → eq.opens < eq.closes
+eq_ahead line at eq e = let p = eq_string line at (eq_to line at e) in omega arith
+
+pub eq_within : (line : List ℕ) (at : ℕ) (eq : EqText) → eq_of line at ≡ Some eq → eq.closes < length line
+eq_within line at eq e = let p = eq_string line at (eq_to line at e) in omega arith
+
+pub ruleset eq_bounds = (eq_ahead, eq_within)
 
 -- a topic under `eq`
 module _ (topic line : List ℕ) (at : ℕ) {opens closes end : ℕ} (q : EqTo line at opens closes end) where

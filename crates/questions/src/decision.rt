@@ -187,6 +187,7 @@ fn pass_value(line: &[u8], at: usize, topic: &[u8]) -> TopicPassed
 
 // The topic at this place of the rule's array, by its kind: it agrees by itself, or this is the next one. A plain string is tested where it
 // is, and so is one under `eq`; any other topic is read through its value.
+#[tactic(auto, using(rule::proofs::DecodeLaws::plain_bounds, crate::proofs::PassLaws::eq_bounds))]
 fn pass_topic(line: &[u8], at: usize, topic: &AskedTopic) -> TopicPassed
     ensures { result ≡ spec.passed_topic topic.now.text.now line.now at }
 {
