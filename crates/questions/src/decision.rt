@@ -70,6 +70,7 @@ fn head(line: &[u8], asked: Asked, client: &Client) -> Option<Head>
 }
 
 // The head of a line that is a rule. Where the users differ, nothing behind them is read.
+#[tactic(auto, using(crate::proofs::PassLaws::fronts))]
 fn front_head(line: &[u8], asked: Asked, client: &Client) -> Option<Option<Head>>
     requires { spec.is_rule (read_rule line.now) ≡ true }
     ensures { IfSome result (λ head. head ≡ spec.head_at client.now asked line.now) }
