@@ -1,10 +1,10 @@
--- A line's call by the form of its word, and what is said and done by it. Assumes nothing.
+-- A line's call by the form of its word; a question leaves the store. Assumes nothing.
 use Prim.Native.Nat.{ℕ, ◌≤◌}
 use mathlib.Core.Path.{◌≡◌, refl, sym, ap, ◌∙◌}
 use mathlib.Core.Bool.{Bool, true, false, cond}
 use mathlib.Core.List.{List}
 use Rattle.std.specs.Prelude.{Option, None, Some}
-use Rattle.std.specs.Option.{option_map, unwrap_or}
+use Rattle.std.specs.Option.{option_map}
 use Rattle.text.specs.Maybe.{bind}
 use Rattle.std.proofs.lemmas.Option.{none-some}
 use borrow.Author.Tests.{le-ltb}
@@ -20,13 +20,12 @@ use Rattle.rule.specs.Limits.{line_limit}
 use Rattle.rule.specs.Rule.{nth}
 use Rattle.questions.specs.Question.{Question}
 use Rattle.lines.specs.Call.{Call, asks, as_string, is_given, asker_in, having, connect_in, subscribe_in, publish_in, connected_in, disconnected_in, ended_in, call_by, call_in, call_from, call_of}
-use Rattle.lines.specs.Said.{malformed, call_said, call_done, line_said, line_done}
+use Rattle.lines.specs.Said.{call_done}
 use Rattle.reader.specs.Reader.{fields_here}
 use Rattle.lines.specs.Reading.{word_from, form_here}
 use Rattle.reader.specs.declared.Fields.{Fields}
 use Rattle.lines.specs.declared.Form.{Form}
 use Rattle.lines.specs.declared.Form.TheVariants.{Connect, Subscribe, Publish, Connected, Disconnected, Ended}
-use Rattle.lines.specs.declared.Said.{Said}
 use Rattle.lines.proofs.ElementLaws.{element_stands, fields_are, is_text, word_element}
 
 -- ---- the form, by the word
@@ -105,7 +104,7 @@ pub form_call : (line : List ℕ) (es : Elements) {form : Option Form} → lengt
 form_call line es h e q =
     short line h ∙ (ap (λ (o : Option Json). bind o call_from) e ∙ (unfold bind call_from in array_call es ∙ ap (λ (f : Option Form). call_as f es) (sym (q ∙ form_is line es e))))
 
--- ---- what is done by it
+-- ---- what a question does
 
 -- a question leaves the store
 module _ (s : List ℕ) where

@@ -1,21 +1,18 @@
 -- Laws of the three questions on a store: its parts as the code cuts them are what it means, and each kind of answer. Assumes nothing.
-use Prim.Native.Nat.{ℕ, suc, ◌+◌, ◌-◌, ◌*◌, ◌≤◌, ◌<◌}
+use Prim.Native.Nat.{ℕ, suc, ◌+◌, ◌-◌, ◌*◌, ◌≤◌}
 use mathlib.Core.Path.{◌≡◌, refl, sym, ap, ◌∙◌}
-use mathlib.Core.Bool.{Bool, true, false, ◌||◌, cond, or-true}
-use mathlib.Core.List.{List, [], ◌∷◌}
+use mathlib.Core.Bool.{Bool, true, cond}
+use mathlib.Core.List.{List}
 use Rattle.std.specs.Prelude.{Option, None, Some, Result, Err, IsErrAnd, ok_or}
 use Rattle.std.specs.Option.{is_some, unwrap_or}
 use Rattle.std.proofs.lemmas.Result.{err_from_is_err_and}
 use native.Mathlib.Omega.{arith}
-use borrow.Author.Tests.{eq-eqb, ne_eqb, eqb-false}
-use lib.Dec.{eqb}
 use lib.ListN.{length, take, drop}
 use Rattle.json_text.specs.Lines.{lines}
 use Rattle.table.specs.Table.{some_row}
 use Rattle.rule.specs.RuleText.{rules_of}
 use Rattle.rule.specs.Rule.{Meaning}
 use Rattle.rule.specs.Identity.{Client, superuser}
-use Rattle.rule.specs.Refusals.{first}
 use Rattle.rule.specs.declared.Refusal.{Refusal}
 use Rattle.rule.specs.declared.Refusal.TheVariants.{Malformed}
 use Rattle.store.specs.Store.{filter_size, eq_size, store_length, View}
