@@ -10,6 +10,7 @@ use Rattle.std.specs.Option.{option_or}
 use lib.Dec.{ltb}
 use lib.ListN.{length}
 use borrow.Author.Tests.{lt-ltb, le-ltb}
+pub use Rattle.text.proofs.TryLaws.{passed_on}
 use Rattle.json_text.specs.Lines.{lines, count_up_to}
 use Rattle.rule.specs.Limits.{lines_limit, id_limit}
 use Rattle.rule.specs.Refusals.{number}
@@ -169,7 +170,7 @@ unfolding on_text refuse decision hit_in reply_to for_client
 by_text superuser q (faulty f) = refl
 by_text superuser q (reads rules) = by_hit superuser q (first_hit q 1 rules)
 
-reply_decided : (c : Client) (rules : List ℕ) (q : Question) → ask c rules q ≡ reply_to q (deciding c rules q)
+pub reply_decided : (c : Client) (rules : List ℕ) (q : Question) → ask c rules q ≡ reply_to q (deciding c rules q)
 unfolding ask deciding unless_fault reply_to refuse
 reply_decided c rules q = at (first_fault (causes c rules q))
   where
@@ -207,26 +208,5 @@ module _ (qos : ℕ) (retained disconnect : Bool) (topic : List ℕ) where
   flag_decides c rules =
       ap (λ (h : Result (Option Hit) Fault). unless_fault (first_fault (causes c rules (publish qos retained false topic))) (for_client c.superuser h)) (flag_in (read_lines c.id c.name 1 (lines rules)))
 
--- what decides is known
-pub record Decided (c : Client) (rules : List ℕ) (q : Question) (answer : Result (Option Hit) Fault) : Type 0 where
-  pub told : answer ≡ deciding c rules q
-
-module _ {c : Client} {rules : List ℕ} {q : Question} {answer : Result (Option Hit) Fault} (d : Decided c rules q answer) where
-  reply_by : {known : Result (Option Hit) Fault} → answer ≡ known → ask c rules q ≡ reply_to q known
-  reply_by e = reply_decided c rules q ∙ ap (reply_to q) (sym d.told ∙ e)
-
-  pub refused_by : {f : Fault} → answer ≡ Err f → ask c rules q ≡ refuses (number f.cause) f.line
-  unfolding reply_to
-  refused_by e = reply_by e
-
-  pub undecided_by : answer ≡ Ok None → ask c rules q ≡ decides no_decision
-  unfolding reply_to
-  undecided_by e = reply_by e
-
-  pub allowed_by : {h : Hit} → answer ≡ Ok (Some h) → h.allow ≡ true → ask c rules q ≡ decides (allowance q h.rule)
-  unfolding reply_to
-  allowed_by e a = reply_by e ∙ rw a
-
-  pub denied_by : {h : Hit} → answer ≡ Ok (Some h) → h.allow ≡ false → ask c rules q ≡ decides (refusal q h.rule)
-  unfolding reply_to
-  denied_by e a = reply_by e ∙ rw a
+-- the replies, for `using`
+pub ruleset replies = (reply_decided, flag_decides, passed_on)

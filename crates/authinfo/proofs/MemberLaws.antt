@@ -11,7 +11,7 @@ use lib.ListN.{length}
 use Rattle.text.specs.Ascii.{ascii}
 use Rattle.text.specs.Text.{same}
 use Rattle.json_text.specs.Strings.{Decoded, string_at}
-use Rattle.json_text.specs.Json.{Json, null, bool, number, text, array, object, Members, no_member, member, value_at, depth_limit, longest, longest_member}
+use Rattle.json_text.specs.Json.{Json, null, bool, number, text, array, object, Members, no_member, member, value_at, separator_at, depth_limit, longest, longest_member}
 use Rattle.json_text.specs.declared.Read.{Read}
 use Rattle.json_text.specs.Access.{value_here, first_item, item_step, last_named, named_in, member_named, string_is, decoded_length, truth_of}
 use Rattle.json_text.specs.declared.Separator.{Separator}
@@ -94,6 +94,18 @@ places_step line m at h e =
       retain = named_step (ascii "retain") line m.retain at h e i;
       topic = named_step (ascii "topic") line m.topic at h e i;
     }
+
+-- after a member, by the cursor behind it
+module _ (line : List ℕ) (at : ℕ) (found : RulePlaces) {noted : RulePlaces} {i : ℕ} {read step : Option Cursor} (so_far : last_places found (members_from 7 line i) ≡ places_at line at)
+    (there : i < length line) (note : noted ≡ noted_at line i found) (reads : read ≡ item_step true 0 (value_at 7 line) line i) (is : read ≡ step) where
+  pub on_member : places_on line noted step ≡ places_at line at
+  on_member = ap (λ (m : RulePlaces). places_on line m step) note ∙ (sym (places_step line found i there (sym reads ∙ is)) ∙ so_far)
+
+-- and by what separates it from the next
+pub behind_member : (line : List ℕ) (at : ℕ) (noted : RulePlaces) (c : Cursor) {read s : Option Separator} → places_on line noted (Some c) ≡ places_at line at
+    → read ≡ separator_at 0x7d line c.at → read ≡ s → places_behind line noted s ≡ places_at line at
+unfolding places_on named_on places_behind
+behind_member line at noted c on reads is = ap (places_behind line noted) (sym is ∙ reads) ∙ on
 
 -- ---- at its place stands the member of the tree
 

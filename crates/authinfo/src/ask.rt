@@ -92,6 +92,7 @@ fn deciding(client: &Client, rules: &[u8], asked: Asked, topic: &[u8]) -> Result
 }
 
 // May the client subscribe to the topic, by the rules that came with its credentials?
+#[tactic(auto, using(crate::proofs::AskLaws::replies), unfolding(crate::specs::Answers::subscribe_says, crate::proofs::AskLaws::reply_to, crate::specs::Decision::allowance, crate::specs::Decision::refusal, crate::specs::Places::question_of))]
 pub fn client_subscribe(
     client: &Client,
     rules: &[u8],
@@ -108,6 +109,7 @@ pub fn client_subscribe(
 }
 
 // May the client publish to the topic, by the rules that came with its credentials?
+#[tactic(auto, using(crate::proofs::AskLaws::replies), unfolding(crate::specs::Answers::publish_says, crate::proofs::AskLaws::reply_to, crate::specs::Decision::allowance, crate::specs::Decision::refusal, crate::specs::Places::question_of))]
 pub fn client_publish(
     client: &Client,
     rules: &[u8],

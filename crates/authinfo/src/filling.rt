@@ -148,6 +148,7 @@ fn configured(text: &[u8], asks: &Question) -> Result<bool, Refusal>
 }
 
 // The topic whose string this is. A plain one is read in place.
+#[tactic(auto, using(rule::proofs::DecodeLaws::plain_bounds))]
 pub(crate) fn topic_at(word: &Word, asks: &Question) -> Result<bool, Refusal>
     requires { spec.ShortAt (string_at word.now.line.now word.now.at) }
     ensures { result ≡ spec.topic_takes asks.now.topic.now asks.now.client.now.id asks.now.client.now.name (spec.text_of (string_at word.now.line.now word.now.at)) }

@@ -59,6 +59,7 @@ fn with_member(name: &[u8], value: &Word, found: RuleParts) -> RuleParts
 }
 
 // What the line's object tells of a rule, if its members' names are plain.
+#[tactic(auto, using(rule::proofs::DecodeLaws::plain_bounds))]
 pub(crate) fn in_one_pass(line: &[u8]) -> Option<RuleParts>
     ensures { IfSome result (spec.LineTo line.now) }
 {

@@ -44,6 +44,7 @@ impl<'a> Word<'a> {
     }
 
     // Is it a string that is this word?
+    #[tactic(auto, using(rule::proofs::DecodeLaws::plain_bounds))]
     pub(crate) fn is(&self, word: &[u8]) -> bool
         ensures { result ≡ string_is self.now.line.now self.now.at word.now }
     {
@@ -85,6 +86,7 @@ impl<'a> Word<'a> {
     }
 
     // The place behind it, if no string of it is over the limit, nor one of `longest` bytes.
+    #[tactic(auto, using(rule::proofs::DecodeLaws::plain_bounds))]
     pub(crate) fn end(&self, longest: usize) -> Option<usize>
         ensures { IfSome result (rule.PartTo 7 self.now.line.now self.now.at longest) }
     {

@@ -1,10 +1,10 @@
--- A line's call by the form of its word, and what is said and done by it. Assumes nothing.
+-- A line's call by the form of its word; a question leaves the store. Assumes nothing.
 use Prim.Native.Nat.{ℕ, ◌≤◌}
 use mathlib.Core.Path.{◌≡◌, refl, sym, ap, ◌∙◌}
 use mathlib.Core.Bool.{Bool, true, false, cond}
 use mathlib.Core.List.{List}
 use Rattle.std.specs.Prelude.{Option, None, Some}
-use Rattle.std.specs.Option.{option_map, unwrap_or}
+use Rattle.std.specs.Option.{option_map}
 use Rattle.text.specs.Maybe.{bind}
 use Rattle.std.proofs.lemmas.Option.{none-some}
 use borrow.Author.Tests.{le-ltb}
@@ -20,13 +20,12 @@ use Rattle.rule.specs.Limits.{line_limit}
 use Rattle.rule.specs.Rule.{nth}
 use Rattle.questions.specs.Question.{Question}
 use Rattle.lines.specs.Call.{Call, asks, as_string, is_given, asker_in, having, connect_in, subscribe_in, publish_in, connected_in, disconnected_in, ended_in, call_by, call_in, call_from, call_of}
-use Rattle.lines.specs.Said.{malformed, call_said, call_done, line_said, line_done}
+use Rattle.lines.specs.Said.{call_done}
 use Rattle.reader.specs.Reader.{fields_here}
 use Rattle.lines.specs.Reading.{word_from, form_here}
 use Rattle.reader.specs.declared.Fields.{Fields}
 use Rattle.lines.specs.declared.Form.{Form}
 use Rattle.lines.specs.declared.Form.TheVariants.{Connect, Subscribe, Publish, Connected, Disconnected, Ended}
-use Rattle.lines.specs.declared.Said.{Said}
 use Rattle.lines.proofs.ElementLaws.{element_stands, fields_are, is_text, word_element}
 
 -- ---- the form, by the word
@@ -100,38 +99,12 @@ unfolding call_of
 short line h = ap (λ (b : Bool). cond b None (bind (line_value line) call_from)) (le-ltb line_limit (length line) h)
 
 -- of an array it is that of its form
-form_call : (line : List ℕ) (es : Elements) {form : Option Form} → length line ≤ line_limit → line_value line ≡ Some (array es) → form ≡ form_here line (fields_here line).first
+pub form_call : (line : List ℕ) (es : Elements) {form : Option Form} → length line ≤ line_limit → line_value line ≡ Some (array es) → form ≡ form_here line (fields_here line).first
     → call_of line ≡ call_as form es
 form_call line es h e q =
     short line h ∙ (ap (λ (o : Option Json). bind o call_from) e ∙ (unfold bind call_from in array_call es ∙ ap (λ (f : Option Form). call_as f es) (sym (q ∙ form_is line es e))))
 
--- ---- what is said and done by it
-
--- no call
-pub none_said : (line s : List ℕ) {r : Option Said} → r ≡ None → call_of line ≡ None → (unwrap_or r malformed ≡ line_said line s) × (s ≡ line_done line s)
-unfolding line_said call_said line_done call_done
-none_said line s r q = (
-  ap (λ (r : Option Said). unwrap_or r malformed) r ∙ sym (ap (λ (o : Option Call). call_said o s) q),
-  sym (ap (λ (o : Option Call). call_done o s) q),
-)
-
-module _ (line s : List ℕ) (es : Elements) (short : length line ≤ line_limit) (is : line_value line ≡ Some (array es)) {f : Fields} (at : f ≡ fields_here line)
-    {form : Option Form} (formed : form ≡ form_here line f.first) where
-  called : call_of line ≡ call_as form es
-  called = form_call line es short is (formed ∙ ap (λ (f : Fields). form_here line f.first) at)
-
-  -- a form that isn't known
-  pub unknown_said : {r : Option Said} → r ≡ None → form ≡ None → (unwrap_or r malformed ≡ line_said line s) × (s ≡ line_done line s)
-  unfolding call_as
-  unknown_said r k = none_said line s r (called ∙ ap (λ (f : Option Form). call_as f es) k)
-
-  -- one that is, with the call
-  pub known_said : (known : Form) {r : Said} {last : List ℕ} → form ≡ Some known → r ≡ call_said (call_as (Some known) es) s → last ≡ call_done (call_as (Some known) es) s
-      → (r ≡ line_said line s) × (last ≡ line_done line s)
-  unfolding line_said line_done
-  known_said known k g h =
-      let is = called ∙ ap (λ (f : Option Form). call_as f es) k in
-      (g ∙ sym (ap (λ (o : Option Call). call_said o s) is), h ∙ sym (ap (λ (o : Option Call). call_done o s) is))
+-- ---- what a question does
 
 -- a question leaves the store
 module _ (s : List ℕ) where

@@ -36,7 +36,8 @@ use Rattle.lines.specs.declared.Form.{Form}
 use Rattle.lines.specs.declared.Form.TheVariants.{Connect, Subscribe, Publish, Connected, Disconnected, Ended}
 use Rattle.lines.specs.declared.Said.{Said}
 use Rattle.lines.proofs.ElementLaws.{zeros, roomy, is_text, having_more, having_read, having-none, bind_none, is_more, truth_read, text_read, text_unread, given_read, given_unread, first as first_is, second, third, fourth}
-use Rattle.lines.proofs.AnswerLaws.{form_by, form_is, array_opens}
+pub use Rattle.lines.proofs.AnswerLaws.{connect_done, subscribe_done, publish_done}
+use Rattle.lines.proofs.AnswerLaws.{form_by, form_is, array_opens, call_as, form_call}
 use Rattle.json_text.specs.declared.DecodeError.TheVariants.{NoText, TooLong}
 use Rattle.lines.specs.declared.Header.{Header}
 use Rattle.json_text.specs.declared.DecodeError.{DecodeError}
@@ -359,3 +360,10 @@ module _ (header rules line : List ℕ) where
       → r ≡ client_said header rules line
   unfolding client_said asked_by bind
   client_asks h l k e = rw (h.is, l.is, k) e
+
+-- the call of an array line is that of its form
+pub called_as : (line : List ℕ) → is_array_line line ≡ true → call_of line ≡ call_as (form_here line (fields_here line).first) (elements line)
+called_as line is = form_call line (elements line) (array_line line is).short (array_stands line is) refl
+
+-- the calls, for `using`
+pub ruleset calls = (called_as, none_called, connect_done, subscribe_done, publish_done)

@@ -11,6 +11,7 @@ use crate::output::malformed;
 use crate::{Form, Said};
 
 // What is said of the line, if it is well formed.
+#[tactic(auto, using(crate::proofs::ClientLaws::calls), unfolding(crate::specs::Said::line_said, crate::specs::Said::line_done, crate::specs::Said::call_said, crate::specs::Said::call_done, crate::proofs::AnswerLaws::call_as))]
 fn said_of(store: &mut [u8], line: &[u8]) -> Option<Said>
     ensures value { unwrap_or result said.malformed ≡ said.line_said line.now store.old }
     ensures store_after { store.new ≡ said.line_done line.now store.old }

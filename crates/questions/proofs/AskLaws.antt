@@ -1,20 +1,18 @@
 -- Laws of the three questions on a store: its parts as the code cuts them are what it means, and each kind of answer. Assumes nothing.
-use Prim.Native.Nat.{ℕ, suc, ◌+◌, ◌-◌, ◌*◌, ◌≤◌, ◌<◌}
+use Prim.Native.Nat.{ℕ, suc, ◌+◌, ◌-◌, ◌*◌, ◌≤◌}
 use mathlib.Core.Path.{◌≡◌, refl, sym, ap, ◌∙◌}
-use mathlib.Core.Bool.{Bool, true, false, ◌||◌, cond, or-true}
-use mathlib.Core.List.{List, [], ◌∷◌}
+use mathlib.Core.Bool.{Bool, true, cond}
+use mathlib.Core.List.{List}
 use Rattle.std.specs.Prelude.{Option, None, Some, Result, Err, IsErrAnd, ok_or}
+use Rattle.std.specs.Option.{is_some, unwrap_or}
 use Rattle.std.proofs.lemmas.Result.{err_from_is_err_and}
 use native.Mathlib.Omega.{arith}
-use borrow.Author.Tests.{eq-eqb, ne_eqb, eqb-false}
-use lib.Dec.{eqb}
 use lib.ListN.{length, take, drop}
 use Rattle.json_text.specs.Lines.{lines}
 use Rattle.table.specs.Table.{some_row}
 use Rattle.rule.specs.RuleText.{rules_of}
 use Rattle.rule.specs.Rule.{Meaning}
 use Rattle.rule.specs.Identity.{Client, superuser}
-use Rattle.rule.specs.Refusals.{first}
 use Rattle.rule.specs.declared.Refusal.{Refusal}
 use Rattle.rule.specs.declared.Refusal.TheVariants.{Malformed}
 use Rattle.store.specs.Store.{filter_size, eq_size, store_length, View}
@@ -88,11 +86,18 @@ within s e =
 
 -- ---- the answer, by what is known
 
+some_is : (o : Option ℕ) → is_some o ≡ true → o ≡ Some (unwrap_or o 0)
+some_is None e = let z : ◌≡◌ {A = ℕ} 0 1 = cc in absurd (omega arith)
+some_is (Some n) e = refl
+
 -- "The first cause in the order listed gives the number"
 module _ (q : Question) (s : List ℕ) where
   pub refuses_by : {n : ℕ} → question_cause q ≡ Some n → ask q s ≡ refuses n 0
   unfolding ask ask_view
   refuses_by e = λ i. elim (e i) as (λ _. Reply) [ None ↦ decided q (view s) | Some n ↦ refuses n 0 ]
+
+  pub refuses_first : is_some (question_cause q) ≡ true → ask q s ≡ refuses (unwrap_or (question_cause q) 0) 0
+  refuses_first e = refuses_by (some_is (question_cause q) e)
 
   module _ (e : question_cause q ≡ None) where
     decided_by_lem : {o : Option View} → view s ≡ o → ask q s ≡ decided q o
@@ -138,35 +143,17 @@ by_rule_lem q None = refl
 by_rule_lem q (Some f) = ap (λ (d : Decision). cond f.1.allow d (refusal q (suc f.0))) (allows q (suc f.0) f.1)
 
 -- of a store with a shape
-pub keeps_laid : {shape : Shape} {code : ℕ} (q : Question) (s : List ℕ) → question_cause q ≡ None → shape_of (view s) ≡ Some shape → keeps q ≡ Some code
-    → ask q s ≡ decides (kept code)
-keeps_laid q s e laid k = keeps_by q s e (seen_as (view s) _ laid).is k
+pub keeps_laid : (q : Question) (s : List ℕ) (shape : Shape) → question_cause q ≡ None → shape_of (view s) ≡ Some shape → is_some (keeps q) ≡ true
+    → ask q s ≡ decides (kept (unwrap_or (keeps q) 0))
+keeps_laid q s shape e laid k = keeps_by q s e (seen_as (view s) shape laid).is (some_is (keeps q) k)
 
--- what is known once `deciding_on` has answered
-pub record Asks (q : Question) (s : List ℕ) (shape : Shape) (answer : Option Deciding) : Type 0 where
-  pub cause : question_cause q ≡ None
-  pub laid : shape_of (view s) ≡ Some shape
-  pub new : keeps q ≡ None
-  pub told : (v : View) → view s ≡ Some v → answer ≡ deciding_on (client q) (wish q) v
-
-module _ {q : Question} {s : List ℕ} {shape : Shape} {answer : Option Deciding} (a : Asks q s shape answer) where
-  decided_laid : {known : Option Deciding} → answer ≡ known → ask q s ≡ decides (decided_by q known)
-  unfolding deciding_on
-  decided_laid d =
-      let v = seen_as (view s) _ a.laid in
-      decides_by q s a.cause v.is a.new ∙ ap decides (by_rule_lem q _ ∙ ap (decided_by q) (sym (a.told v.seen v.is) ∙ d))
-
-  pub none_laid : answer ≡ None → ask q s ≡ decides (refusal q 0)
-  unfolding decided_by
-  none_laid d = decided_laid d
-
-  pub allows_laid : {n : ℕ} {allow flag : Bool} → answer ≡ Some (record { rule = n; allow = allow; superuser = flag }) → allow ≡ true → ask q s ≡ decides (allowed q n flag)
-  unfolding decided_by
-  allows_laid d h = decided_laid d ∙ rw h
-
-  pub refuses_laid : {n : ℕ} {allow flag : Bool} → answer ≡ Some (record { rule = n; allow = allow; superuser = flag }) → allow ≡ false → ask q s ≡ decides (refusal q n)
-  unfolding decided_by
-  refuses_laid d h = decided_laid d ∙ rw h
+-- and once `deciding_on` has answered
+pub decides_laid : (q : Question) (s : List ℕ) {answer : Option Deciding} → ((v : View) → view s ≡ Some v → answer ≡ deciding_on (client q) (wish q) v)
+    → (shape : Shape) → question_cause q ≡ None → shape_of (view s) ≡ Some shape → keeps q ≡ None → ask q s ≡ decides (decided_by q answer)
+unfolding deciding_on
+decides_laid q s told shape e laid k =
+    let v = seen_as (view s) shape laid in
+    decides_by q s e v.is k ∙ ap decides (by_rule_lem q _ ∙ ap (decided_by q) (sym (told v.seen v.is)))
 
 -- what `?` passes on where `ok_or` found no shape
 pub malformed_answer : {A : Type 0} {answer : Result A Refusal} {shape : Option Shape} {cause : Refusal} → IsErrAnd answer (λ y. y ≡ cause)
@@ -177,47 +164,5 @@ malformed_answer {answer = answer} {shape} {cause} h e n =
     let is : cause ≡ Malformed = cc in
     told.1 ∙ ap Err (told.2 ∙ is)
 
--- ---- number 1, then number 2
-
-module _ (long wrong : Bool) where
-  pub first-long : long ≡ true → first ((long, 1) ∷ (wrong, 2) ∷ []) ≡ Some 1
-  unfolding first
-  first-long e = rw e
-
-  pub first-wrong : long ≡ false → wrong ≡ true → first ((long, 1) ∷ (wrong, 2) ∷ []) ≡ Some 2
-  unfolding first
-  first-wrong e h = rw (e, h)
-
-  pub first-none : long ≡ false → wrong ≡ false → first ((long, 1) ∷ (wrong, 2) ∷ []) ≡ None
-  unfolding first
-  first-none e h = rw (e, h)
-
--- each number has two tests
-pub either_first : (a b : Bool) → a ≡ true → (a || b) ≡ true
-either_first a b e = rw e
-
-pub either_second : (a b : Bool) → b ≡ true → (a || b) ≡ true
-either_second a b e = rw e (or-true a)
-
-pub neither : (a b : Bool) → a ≡ false → b ≡ false → (a || b) ≡ false
-neither a b e h = rw (e, h)
-
--- ---- earlier codes
-
--- "Connect's 3 and 4 .. are returned as kept"
-pub connect_kept : (n : ℕ) → 3 ≤ n → n ≤ 4 → cond (eqb n 3 || eqb n 4) (Some n) None ≡ Some n
-connect_kept n h k = at (eqb n 3) refl
-  where
-    at : (b : Bool) → eqb n 3 ≡ b → cond (b || eqb n 4) (Some n) None ≡ Some n
-    at true e = refl
-    at false e = let is : n ≡ 4 = omega (arith, eqb-false n 3 e) in rw (eq-eqb n 4 is)
-
-pub connect_new : (n : ℕ) → n < 3 → cond (eqb n 3 || eqb n 4) (Some n) None ≡ None
-connect_new n h = rw (ne_eqb n 3 (λ e. omega arith), ne_eqb n 4 (λ e. omega arith))
-
--- "and the others' 2"
-pub code_kept : (n : ℕ) → n ≡ code_limit → cond (eqb n code_limit) (Some n) None ≡ Some n
-code_kept n e = rw (eq-eqb n code_limit e)
-
-pub code_new : (n : ℕ) → (n ≡ code_limit → ⊥) → cond (eqb n code_limit) (Some n) None ≡ None
-code_new n h = rw (ne_eqb n code_limit h)
+-- the answers before `deciding_on`, for `using`
+pub ruleset asks = (refuses_first, malformed_by, keeps_laid, malformed_answer)

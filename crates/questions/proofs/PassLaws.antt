@@ -25,13 +25,15 @@ use Rattle.rule.specs.declared.Fault.{Fault}
 use Rattle.rule.specs.Agreement.{identity_at}
 use Rattle.rule.specs.Identity.{Client}
 use Rattle.rule.specs.Places.{value_of, placed_rule, fourth_of, rule_answer}
-use Rattle.rule.specs.Front.{item_behind, FrontTo, RestFrom, EqTo}
+use Rattle.rule.specs.Front.{item_behind, access_of, users_up_to, rest_of, eq_of, EqTo}
+use Rattle.json_text.specs.declared.Read.{Read}
+use Rattle.rule.specs.declared.Rest.{Rest}
+use Rattle.rule.specs.declared.EqText.{EqText}
 use Rattle.rule.specs.declared.Refusal.TheVariants.{TooLong}
-use Rattle.rule.specs.declared.Control.{Control}
 use Rattle.rule.specs.declared.Users.{Users}
 use Rattle.rule.specs.declared.Rule.{Rule}
-use Rattle.rule.proofs.OnePassLaws.{value_there, eq_object, eq_value, eq_topic}
-use Rattle.rule.proofs.FrontLaws.{next_behind, read_here, Fronted, front_is}
+use Rattle.rule.proofs.OnePassLaws.{value_there, eq_to, eq_string, eq_object, eq_value, eq_topic}
+use Rattle.rule.proofs.FrontLaws.{next_behind, read_here, Fronted, front_is, front_told, rest_told}
 use Rattle.store.specs.Store.{over}
 use Rattle.store.specs.View.{faultless}
 use Rattle.questions.specs.Decision.{static_agrees}
@@ -95,6 +97,15 @@ module _ (topic line : List ℕ) (at : ℕ) where
       → passed_topic topic line at ≡ cond b TopicAgrees (Onward next)
   passed_plain p e q = passed_by (plain_agrees p ∙ e) (next_behind line at (plain_value depth_limit line at p) ∙ q)
 
+-- the quotes of a text under `eq`, and where they stand, for `using`
+pub eq_ahead : (line : List ℕ) (at : ℕ) (eq : EqText) → eq_of line at ≡ Some eq → eq.opens < eq.closes
+eq_ahead line at eq e = let p = eq_string line at (eq_to line at e) in omega arith
+
+pub eq_within : (line : List ℕ) (at : ℕ) (eq : EqText) → eq_of line at ≡ Some eq → eq.closes < length line
+eq_within line at eq e = let p = eq_string line at (eq_to line at e) in omega arith
+
+pub ruleset eq_bounds = (eq_ahead, eq_within)
+
 -- a topic under `eq`
 module _ (topic line : List ℕ) (at : ℕ) {opens closes end : ℕ} (q : EqTo line at opens closes end) where
   eq_topic_agrees : topic_agrees_at topic line at ≡ eq_text_agrees topic (take (closes - (opens + 1)) (drop (opens + 1) line))
@@ -148,38 +159,49 @@ rule_read line = by (read_rule line)
     by (Ok r) q = (r, refl)
 
 module _ (asked : Asked) (line : List ℕ) (client : Client) (k : is_rule (read_rule line) ≡ true)
-    (allow : Bool) (users : Users) (end : ℕ) (f : FrontTo line allow users end) where
+    (access : Read Bool) (users : Read Users) (a : access_of line ≡ Some access) (u : users_up_to line access.value access.next ≡ Some users) where
   abbrev rule : Rule
   rule = placed_rule (fourth_of (line_value line)) (rule_read line k).0
 
-  fronted : Fronted line allow users end rule
-  fronted = front_is f (read_here line (rule_read line k).1)
+  fronted : Fronted line access.value users.value users.next rule
+  fronted = front_is (front_told line a u) (read_here line (rule_read line k).1)
 
-  head_is : {covered : Bool} {topics : Option ℕ} {said : Option Bool} → covered ≡ covers_asked rule.control asked → topics ≡ topics_for asked rule.topics
-      → said ≡ identity_at line users client → cond covered (head_with allow topics said) None ≡ head_at client asked line
+  head_is : (said : Option Bool) → identity_at line users.value client ≡ said
+      → head_at client asked line ≡ cond (covers_asked rule.control asked) (head_with access.value (topics_for asked rule.topics) said) None
   unfolding rule_answer
-  head_is {covered} {topics} {said} p t q =
-      ap (λ (a : Bool). cond covered (head_with a topics said) None) (sym fronted.allows)
-      ∙ head_read asked line client (sym (ap (rule_answer (fourth_of (line_value line))) (rule_read line k).1)) refl p t
-      (q ∙ ap (λ (u : Users). identity_at line u client) (sym fronted.means))
+  head_is said q =
+      sym (ap (λ (a : Bool). cond (covers_asked rule.control asked) (head_with a (topics_for asked rule.topics) said) None) (sym fronted.allows)
+      ∙ head_read asked line client (sym (ap (rule_answer (fourth_of (line_value line))) (rule_read line k).1)) refl refl refl
+      (sym q ∙ ap (λ (u : Users). identity_at line u client) (sym fronted.means)))
 
   -- its users differ
-  pub front_differs : None ≡ identity_at line users client → None ≡ head_at client asked line
+  pub front_differs : identity_at line users.value client ≡ None → head_at client asked line ≡ None
   unfolding head_with
-  front_differs q = by (covers_asked rule.control asked) ∙ head_is refl refl q
+  front_differs q = head_is None q ∙ by (covers_asked rule.control asked)
     where
-      by : (b : Bool) → None ≡ cond {A = Option Head} b None None
+      by : (b : Bool) → ◌≡◌ {A = Option Head} (cond b None None) None
       by true = refl
       by false = refl
 
   -- its users agree, and behind them stand this control and these topics
-  pub front_agrees : {flag covered : Bool} {control : Control} {topics left : Option ℕ} → Some flag ≡ identity_at line users client
-      → RestFrom line end control topics → covered ≡ covers_asked control asked → left ≡ topics_for asked topics
-      → cond covered (Some (record { allow = allow; superuser = flag; topics = left })) None ≡ head_at client asked line
-  unfolding head_with
-  front_agrees q r p t =
-      let are = fronted.rest r in
-      head_is (p ∙ ap (λ (c : Control). covers_asked c asked) (sym are.0)) (t ∙ ap (topics_for asked) (sym are.1)) q
+  module _ (flag : Bool) (rest : Rest) (q : identity_at line users.value client ≡ Some flag) (r : rest_of line users.next ≡ Some rest) where
+    by_control : (covered : Bool) → covers_asked rest.control asked ≡ covered
+        → head_at client asked line ≡ cond covered (Some (record { allow = access.value; superuser = flag; topics = topics_for asked rest.topics })) None
+    unfolding head_with
+    by_control covered p =
+        let are = fronted.rest (rest_told line users.next r) in
+        head_is (Some flag) q
+        ∙ (λ i. cond (covers_asked (are.0 i) asked) (Some (record { allow = access.value; superuser = flag; topics = topics_for asked (are.1 i) })) None)
+        ∙ ap (λ (b : Bool). cond b (Some (record { allow = access.value; superuser = flag; topics = topics_for asked rest.topics })) None) p
+
+    pub front_covers : covers_asked rest.control asked ≡ true → head_at client asked line ≡ Some (record { allow = access.value; superuser = flag; topics = topics_for asked rest.topics })
+    front_covers p = by_control true p
+
+    pub front_covers_not : covers_asked rest.control asked ≡ false → head_at client asked line ≡ None
+    front_covers_not p = by_control false p
+
+-- the head by the front, for `using`
+pub ruleset fronts = (front_differs, front_covers, front_covers_not)
 
 -- ---- lines that are rules
 

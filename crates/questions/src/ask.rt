@@ -78,6 +78,7 @@ fn deciding_on(
 }
 
 // May the client connect? The store is read only.
+#[tactic(auto, using(crate::proofs::AskLaws::asks), unfolding(crate::specs::Answers::connect_says, crate::specs::Question::question_cause, crate::specs::Decision::keeps, rule::specs::Refusals::number, rule::specs::Refusals::first))]
 pub fn connect(store: &[u8], earlier: u64, client: &Client) -> Result<ConnectAnswer, Refusal>
     ensures { answers.connect_says result ≡ decision.ask (question.connect earlier client.now) store.now }
 {
@@ -99,6 +100,7 @@ pub fn connect(store: &[u8], earlier: u64, client: &Client) -> Result<ConnectAns
 }
 
 // May the client subscribe to the topic?
+#[tactic(auto, using(crate::proofs::AskLaws::asks), unfolding(crate::specs::Answers::subscribe_says, crate::specs::Question::question_cause, crate::specs::Decision::keeps, rule::specs::Refusals::number, rule::specs::Refusals::first))]
 pub fn subscribe(
     store: &[u8],
     earlier: u64,
@@ -126,6 +128,7 @@ pub fn subscribe(
 }
 
 // May the client publish to the topic?
+#[tactic(auto, using(crate::proofs::AskLaws::asks), unfolding(crate::specs::Answers::publish_says, crate::specs::Question::question_cause, crate::specs::Decision::keeps, rule::specs::Refusals::number, rule::specs::Refusals::first))]
 pub fn publish(
     store: &[u8],
     earlier: u64,

@@ -70,6 +70,7 @@ fn head(line: &[u8], asked: Asked, client: &Client) -> Option<Head>
 }
 
 // The head of a line that is a rule. Where the users differ, nothing behind them is read.
+#[tactic(auto, using(crate::proofs::PassLaws::fronts))]
 fn front_head(line: &[u8], asked: Asked, client: &Client) -> Option<Option<Head>>
     requires { spec.is_rule (read_rule line.now) ≡ true }
     ensures { IfSome result (λ head. head ≡ spec.head_at client.now asked line.now) }
@@ -187,6 +188,7 @@ fn pass_value(line: &[u8], at: usize, topic: &[u8]) -> TopicPassed
 
 // The topic at this place of the rule's array, by its kind: it agrees by itself, or this is the next one. A plain string is tested where it
 // is, and so is one under `eq`; any other topic is read through its value.
+#[tactic(auto, using(rule::proofs::DecodeLaws::plain_bounds, crate::proofs::PassLaws::eq_bounds))]
 fn pass_topic(line: &[u8], at: usize, topic: &AskedTopic) -> TopicPassed
     ensures { result ≡ spec.passed_topic topic.now.text.now line.now at }
 {

@@ -1,7 +1,6 @@
 -- A plain string is read in place, another one decoded; no string is over 256 bytes, so it fits. Assumes nothing.
 use mathlib.Core.Path.{sym, ap, ◌∙◌}
 use Rattle.std.specs.Prelude.{Some}
-use native.Mathlib.Omega.{arith}
 use lib.ListN.{replicate}
 use lib.Seq.{length-take-le}
 use Rattle.json_text.specs.Strings.{string_at}
@@ -10,22 +9,6 @@ use Rattle.rule.proofs.DecodeLaws.{decoded_length}
 use Rattle.authinfo.specs.Places.{topic_takes}
 use Rattle.authinfo.proofs.FillingLaws.{short_there, text_there, no_topic}
 use Rattle.authinfo.proofs.filling.topic_at.Goals as goal
-
-pub overflow_add-word : goal.overflow_add-word
-overflow_add-word c =
-    let found = plain_string c.args.word.now.line.now c.args.word.now.at (sym c.args.word.now.closes ∙ c.in-Some.is) in omega arith
-
-pub slice_bounds-configured-count : goal.slice_bounds-configured-count
-slice_bounds-configured-count c =
-    let found = plain_string c.args.word.now.line.now c.args.word.now.at (sym c.args.word.now.closes ∙ c.in-Some.is) in omega arith
-
-pub slice_bounds-configured-start : goal.slice_bounds-configured-start
-slice_bounds-configured-start c =
-    let found = plain_string c.args.word.now.line.now c.args.word.now.at (sym c.args.word.now.closes ∙ c.in-Some.is) in omega arith
-
-pub slice_bounds-configured-end : goal.slice_bounds-configured-end
-slice_bounds-configured-end c =
-    let found = plain_string c.args.word.now.line.now c.args.word.now.at (sym c.args.word.now.closes ∙ c.in-Some.is) in omega arith
 
 pub configured-requires : goal.configured-requires
 configured-requires c =

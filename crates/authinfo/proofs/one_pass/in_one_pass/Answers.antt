@@ -20,34 +20,6 @@ pub loop-i-init : goal.loop-i-init
 loop-i-init c =
     none_passed c.args.line.now c.skip_blanks-first.result refl (object_opens c.args.line.now _ (sym c.kind_at.ensures ∙ c.in-Object.is)) c.skip_blanks-i.ensures
 
-pub overflow_add-end : goal.overflow_add-end
-overflow_add-end c =
-    let named = plain_string c.args.line.now c.loop-i.i (sym c.plain_text.ensures ∙ c.in_ok-end.was) in omega arith
-
-pub overflow_add-i : goal.overflow_add-i
-overflow_add-i c =
-    let named = plain_string c.args.line.now c.loop-i.i (sym c.plain_text.ensures ∙ c.in_ok-end.was) in omega arith
-
-pub slice_bounds-with_member-count : goal.slice_bounds-with_member-count
-slice_bounds-with_member-count c =
-    let named = plain_string c.args.line.now c.loop-i.i (sym c.plain_text.ensures ∙ c.in_ok-end.was) in omega arith
-
-pub slice_bounds-with_member-start : goal.slice_bounds-with_member-start
-slice_bounds-with_member-start c =
-    let named = plain_string c.args.line.now c.loop-i.i (sym c.plain_text.ensures ∙ c.in_ok-end.was) in omega arith
-
-pub slice_bounds-with_member-end : goal.slice_bounds-with_member-end
-slice_bounds-with_member-end c =
-    let named = plain_string c.args.line.now c.loop-i.i (sym c.plain_text.ensures ∙ c.in_ok-end.was) in omega arith
-
-pub overflow_add-i-in-loop-i : goal.overflow_add-i-in-loop-i
-overflow_add-i-in-loop-i c =
-    let named = plain_string c.args.line.now c.loop-i.i (sym c.plain_text.ensures ∙ c.in_ok-end.was) in omega arith
-
-pub overflow_sub-end : goal.overflow_sub-end
-overflow_sub-end c =
-    let named = plain_string c.args.line.now c.loop-i.i (sym c.plain_text.ensures ∙ c.in_ok-end.was) in omega arith
-
 pub returns-in-Close : goal.returns-in-Close
 returns-in-Close c =
     let named = plain_string c.args.line.now c.loop-i.i (sym c.plain_text.ensures ∙ c.in_ok-end.was) in

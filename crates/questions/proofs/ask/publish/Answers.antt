@@ -1,58 +1,21 @@
--- `questions::ask::publish` meets its contract: each answer follows from the tests before it, in their order. Assumes nothing.
-use mathlib.Core.Path.{sym, ap, ◌∙◌}
-use borrow.Author.Tests.{lt-ltb, le-ltb}
-use Rattle.rule.specs.Refusals.{number}
-use Rattle.questions.specs.Question.{Question, publish, question_cause}
+-- `questions::ask::publish` meets its contract: what decides is asked last, and its answer is told. Assumes nothing.
+use native.Mathlib.Omega.{arith}
+use Rattle.rule.specs.Refusals.{first}
+use Rattle.questions.specs.Question.{publish, question_cause}
 use Rattle.questions.specs.Decision.{client, wish, keeps, refusal}
 use Rattle.questions.specs.Parts.{wish_of}
 use Rattle.questions.specs.Answers.{publish_says}
-use Rattle.questions.proofs.AskLaws.{malformed_answer, refuses_by, malformed_by, allowed, keeps_laid, Asks, none_laid, allows_laid, refuses_laid, first-long, first-wrong, first-none, either_first, either_second, neither, code_kept, code_new}
-use Rattle.questions.proofs.ask.publish.Goals.{then-client_over-via-then-client_over, then-client_over-via-else-client_over+then-topic-gt-TEXT}
+use Rattle.questions.proofs.AskLaws.{allowed, decided_by, decides_laid}
 use Rattle.questions.proofs.ask.publish.Goals as goal
 
-pub returns-then-client_over : goal.returns-then-client_over
-unfolding question_cause publish_says number
-returns-then-client_over c =
-    sym (refuses_by (publish c.args.earlier c.args.client.now c.args.topic.now c.args.disconnect) c.args.store.now (first-long _ _
-    (elim c.then-client_over.branch [
-      | then-client_over-via-then-client_over w ↦ either_first _ _ (sym w.if-client_over.ensures)
-      | then-client_over-via-else-client_over+then-topic-gt-TEXT w ↦ either_second _ _ (lt-ltb _ _ w.if-topic-gt-TEXT.true)
-    ])))
-
-pub returns-then-earlier-gt-CODE : goal.returns-then-earlier-gt-CODE
-unfolding question_cause publish_says number
-returns-then-earlier-gt-CODE c =
-    sym (refuses_by (publish c.args.earlier c.args.client.now c.args.topic.now c.args.disconnect) c.args.store.now (first-wrong _ _ (neither _ _ (sym c.if-client_over.ensures) (le-ltb _ _ c.if-topic-gt-TEXT.false)) (lt-ltb _ _ c.if-earlier-gt-CODE.true)))
-
-pub returns-in_err-shape : goal.returns-in_err-shape
-unfolding publish_says number question_cause
-returns-in_err-shape c =
-    ap publish_says (malformed_answer c.from_residual.ensures.1 c.in_err-shape.ensures.value c.in_err-shape.ensures.ok_part)
-    ∙ sym (malformed_by (publish c.args.earlier c.args.client.now c.args.topic.now c.args.disconnect) c.args.store.now (first-none _ _ (neither _ _ (sym c.if-client_over.ensures) (le-ltb _ _ c.if-topic-gt-TEXT.false)) (le-ltb _ _ c.if-earlier-gt-CODE.false)) (sym c.shape.ensures ∙ c.in_err-shape.ensures.ok_part))
-
-pub returns-then-earlier-eq-CODE : goal.returns-then-earlier-eq-CODE
-unfolding keeps publish_says question_cause
-returns-then-earlier-eq-CODE c =
-    let asked : Question = publish c.args.earlier c.args.client.now c.args.topic.now c.args.disconnect in
-    sym (keeps_laid asked c.args.store.now (first-none _ _ (neither _ _ (sym c.if-client_over.ensures) (le-ltb _ _ c.if-topic-gt-TEXT.false)) (le-ltb _ _ c.if-earlier-gt-CODE.false)) (sym c.shape.ensures ∙ c.in_ok-shape.ensures.ok_part) (code_kept _ c.if-earlier-eq-CODE.true))
-
 pub returns-in-Some : goal.returns-in-Some
-unfolding allowed publish_says question_cause keeps client wish wish_of
-returns-in-Some c =
-    let asked : Question = publish c.args.earlier c.args.client.now c.args.topic.now c.args.disconnect in
-    let decided : Asks asked c.args.store.now c.in_ok-shape.shape c.deciding_on.result = record { cause = first-none _ _ (neither _ _ (sym c.if-client_over.ensures) (le-ltb _ _ c.if-topic-gt-TEXT.false)) (le-ltb _ _ c.if-earlier-gt-CODE.false); laid = sym c.shape.ensures ∙ c.in_ok-shape.ensures.ok_part; new = code_new _ c.if-earlier-eq-CODE.false; told = c.deciding_on.ensures } in
-    sym (allows_laid decided c.in-Some.is c.if-by.true)
+unfolding allowed publish_says decided_by keeps question_cause first client wish wish_of
+returns-in-Some c = grind (arith, decides_laid (publish c.args.earlier c.args.client.now c.args.topic.now c.args.disconnect) _ c.deciding_on.ensures)
 
 pub returns-in-Some-2 : goal.returns-in-Some-2
-unfolding refusal publish_says question_cause keeps client wish wish_of
-returns-in-Some-2 c =
-    let asked : Question = publish c.args.earlier c.args.client.now c.args.topic.now c.args.disconnect in
-    let decided : Asks asked c.args.store.now c.in_ok-shape.shape c.deciding_on.result = record { cause = first-none _ _ (neither _ _ (sym c.if-client_over.ensures) (le-ltb _ _ c.if-topic-gt-TEXT.false)) (le-ltb _ _ c.if-earlier-gt-CODE.false); laid = sym c.shape.ensures ∙ c.in_ok-shape.ensures.ok_part; new = code_new _ c.if-earlier-eq-CODE.false; told = c.deciding_on.ensures } in
-    sym (refuses_laid decided c.in-Some.is c.if-by.false)
+unfolding refusal publish_says decided_by keeps question_cause first client wish wish_of
+returns-in-Some-2 c = grind (arith, decides_laid (publish c.args.earlier c.args.client.now c.args.topic.now c.args.disconnect) _ c.deciding_on.ensures)
 
 pub returns-in-None : goal.returns-in-None
-unfolding refusal publish_says question_cause keeps client wish wish_of
-returns-in-None c =
-    let asked : Question = publish c.args.earlier c.args.client.now c.args.topic.now c.args.disconnect in
-    let decided : Asks asked c.args.store.now c.in_ok-shape.shape c.deciding_on.result = record { cause = first-none _ _ (neither _ _ (sym c.if-client_over.ensures) (le-ltb _ _ c.if-topic-gt-TEXT.false)) (le-ltb _ _ c.if-earlier-gt-CODE.false); laid = sym c.shape.ensures ∙ c.in_ok-shape.ensures.ok_part; new = code_new _ c.if-earlier-eq-CODE.false; told = c.deciding_on.ensures } in
-    sym (none_laid decided c.in-None.is)
+unfolding refusal publish_says decided_by keeps question_cause first client wish wish_of
+returns-in-None c = grind (arith, decides_laid (publish c.args.earlier c.args.client.now c.args.topic.now c.args.disconnect) _ c.deciding_on.ensures)

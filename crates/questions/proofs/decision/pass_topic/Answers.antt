@@ -1,63 +1,17 @@
 -- A plain string, and one under `eq`, is tested where it is; any other topic is read through its value. Assumes nothing.
-use native.Mathlib.Omega.{arith}
 use mathlib.Core.Path.{refl, sym}
 use Rattle.json_text.proofs.PlainLaws.{plain_string}
-use Rattle.rule.proofs.OnePassLaws.{eq_to, eq_string}
+use Rattle.rule.proofs.OnePassLaws.{eq_to}
 use Rattle.questions.proofs.PassLaws.{passed_plain, passed_eq}
 use Rattle.questions.proofs.decision.pass_topic.Goals as goal
-
-pub overflow_add-at : goal.overflow_add-at
-overflow_add-at c =
-    let p = plain_string c.args.line.now c.args.at (sym c.in-Some.ensures) in
-    omega arith
-
-pub slice_bounds-text_agrees-count : goal.slice_bounds-text_agrees-count
-slice_bounds-text_agrees-count c =
-    let p = plain_string c.args.line.now c.args.at (sym c.in-Some.ensures) in
-    omega arith
-
-pub slice_bounds-text_agrees-start : goal.slice_bounds-text_agrees-start
-slice_bounds-text_agrees-start c =
-    let p = plain_string c.args.line.now c.args.at (sym c.in-Some.ensures) in
-    omega arith
-
-pub slice_bounds-text_agrees-end : goal.slice_bounds-text_agrees-end
-slice_bounds-text_agrees-end c =
-    let p = plain_string c.args.line.now c.args.at (sym c.in-Some.ensures) in
-    omega arith
 
 pub returns-then-text_agrees : goal.returns-then-text_agrees
 returns-then-text_agrees c =
     sym (passed_plain c.args.topic.now.text.now c.args.line.now c.args.at (plain_string c.args.line.now c.args.at (sym c.in-Some.ensures)) (sym c.if-text_agrees.ensures) refl)
 
-pub overflow_add-end : goal.overflow_add-end
-overflow_add-end c =
-    let p = plain_string c.args.line.now c.args.at (sym c.in-Some.ensures) in
-    omega arith
-
 pub returns-in-Some : goal.returns-in-Some
 returns-in-Some c =
     sym (passed_plain c.args.topic.now.text.now c.args.line.now c.args.at (plain_string c.args.line.now c.args.at (sym c.in-Some.ensures)) (sym c.if-text_agrees.ensures) (sym c.element_behind.ensures))
-
-pub overflow_add-eq : goal.overflow_add-eq
-overflow_add-eq c =
-    let p = eq_string c.args.line.now c.args.at (eq_to c.args.line.now c.args.at (sym c.in-Some-eq_text.ensures)) in
-    omega arith
-
-pub slice_bounds-eq_agrees-count : goal.slice_bounds-eq_agrees-count
-slice_bounds-eq_agrees-count c =
-    let p = eq_string c.args.line.now c.args.at (eq_to c.args.line.now c.args.at (sym c.in-Some-eq_text.ensures)) in
-    omega arith
-
-pub slice_bounds-eq_agrees-start : goal.slice_bounds-eq_agrees-start
-slice_bounds-eq_agrees-start c =
-    let p = eq_string c.args.line.now c.args.at (eq_to c.args.line.now c.args.at (sym c.in-Some-eq_text.ensures)) in
-    omega arith
-
-pub slice_bounds-eq_agrees-end : goal.slice_bounds-eq_agrees-end
-slice_bounds-eq_agrees-end c =
-    let p = eq_string c.args.line.now c.args.at (eq_to c.args.line.now c.args.at (sym c.in-Some-eq_text.ensures)) in
-    omega arith
 
 pub returns-then-eq_agrees : goal.returns-then-eq_agrees
 returns-then-eq_agrees c =

@@ -6,18 +6,6 @@ use Rattle.rule.proofs.OnePassLaws.{part_read}
 use Rattle.authinfo.proofs.OnePassLaws.{plain_part}
 use Rattle.authinfo.proofs.words.Word.end.Goals as goal
 
-pub overflow_add-self : goal.overflow_add-self
-overflow_add-self c =
-    let p = plain_string c.args.self.now.line.now c.args.self.now.at (sym c.args.self.now.closes ∙ c.in-Some.is) in omega arith
-
-pub overflow_sub-end : goal.overflow_sub-end
-overflow_sub-end c =
-    let p = plain_string c.args.self.now.line.now c.args.self.now.at (sym c.args.self.now.closes ∙ c.in-Some.is) in omega arith
-
-pub overflow_add-result : goal.overflow_add-result
-overflow_add-result c =
-    let p = plain_string c.args.self.now.line.now c.args.self.now.at (sym c.args.self.now.closes ∙ c.in-Some.is) in omega arith
-
 pub returns-in-Some : goal.returns-in-Some
 returns-in-Some c =
     plain_part c.args.self.now.line.now c.args.self.now.at (plain_string c.args.self.now.line.now c.args.self.now.at (sym c.args.self.now.closes ∙ c.in-Some.is)) c.args.longest (omega arith) (omega arith)
