@@ -1,10 +1,8 @@
 -- `events::leaving::disconnected` meets its contract. A store that has a shape is the layout of a view; the client's filter rows that a note of the session clears go,
 -- and what is left is laid out again. Assumes nothing.
-use Prim.Native.Nat.{◌*◌, ◌≤◌}
 use native.Mathlib.Omega.{arith}
 use mathlib.Core.Path.{sym, ap, ◌∙◌}
 use Rattle.std.specs.Result.{result_ok}
-use lib.ListN.{length}
 use lib.Seq.{length-take-le}
 use Rattle.store.specs.Store.{store_length}
 use Rattle.store.specs.Layout.{filters_at, eqs_at, notes_at}

@@ -3,8 +3,6 @@
 use native.Mathlib.Omega.{arith}
 use mathlib.Core.Path.{ap, ◌∙◌}
 use Rattle.std.specs.Result.{result_ok}
-use Rattle.store.specs.Store.{store_length}
-use Rattle.store.specs.Layout.{filters_at, eqs_at, notes_at}
 use Rattle.text.proofs.TryLaws.{missing}
 use Rattle.store.proofs.PartLaws.{Shaped, shaped_told, bounds_of}
 use Rattle.events.specs.Event.{says}
@@ -24,18 +22,6 @@ pub returns-in_err-shape : goal.returns-in_err-shape
 returns-in_err-shape c =
     let none = missing c.shape.result c.from_residual.result c.ok_or.ensures.value c.in_err-shape.was c.from_residual.ensures.1 in
     let whole = ended_unread _ _ c.if-session-ge-SESSIONS.false c.shape.ensures none.0 in record { result_value = ap says none.1 ∙ whole.0; store_after = whole.1 }
-
-pub slice_bounds-remove-count : goal.slice_bounds-remove-count
-unfolding store_length notes_at eqs_at filters_at
-slice_bounds-remove-count c =
-    let sizes = bounds_of (shaped (goal.at.slice_bounds-remove-count c).In_ok-shape) in
-    omega (arith, c.notes_at-notes_at.ensures, c.length-end.ensures)
-
-pub slice_bounds-remove-start : goal.slice_bounds-remove-start
-unfolding store_length notes_at eqs_at filters_at
-slice_bounds-remove-start c =
-    let sizes = bounds_of (shaped (goal.at.slice_bounds-remove-start c).In_ok-shape) in
-    omega (arith, c.notes_at-notes_at.ensures, c.length-end.ensures)
 
 pub slice_bounds-remove-end : goal.slice_bounds-remove-end
 slice_bounds-remove-end c =
