@@ -539,10 +539,10 @@ module _ {session at₁ at₂ at₃ end : ℕ} {id s : List ℕ} {name : Option 
 
     asks : (from to : ℕ) → 16 + shape.text ≤ from → from ≤ to → to ≤ end → Asks from to t
     asks from to after_text in_order within = let l = whole_length in (
-        (after_text, in_order, omega arith),
-        omega (arith, ap (λ x. length (lines x)) (text_is fs es ns q), lines_fit),
-        ap (λ x. over_filled x id name) (text_is fs es ns q) ∙ under,
-      )
+      (after_text, in_order, omega arith),
+      omega (arith, ap (λ x. length (lines x)) (text_is fs es ns q), lines_fit),
+      ap (λ x. over_filled x id name) (text_is fs es ns q) ∙ under,
+    )
 
   pub asks_filters : Asks at₁ at₂ s
   asks_filters = let b = bounds in asks start sized _ _ b.0 b.1 (omega arith)
