@@ -527,27 +527,25 @@ module _ {session at₁ at₂ at₃ end : ℕ} {id s : List ℕ} {name : Option 
       )
 
   -- what `push_all` asks
+  abbrev pub Asks : ℕ → ℕ → List ℕ → Type 0
+  Asks from to t =
+      ((16 + shape.text ≤ from) × (from ≤ to) × (to ≤ length t))
+      × (length (lines (rules (16 + shape.text) t)) ≤ lines_limit)
+      × (over_filled (rules (16 + shape.text) t) id name ≡ false)
+
   module _ {t fs es ns : List ℕ} (q : t ≡ state v fs es ns) (S : Sized v fs es ns) where
     whole_length : length t ≡ end
     whole_length = ap length q ∙ (state-length v F fs es ns S ∙ sym at_end)
 
-    asked : (length (lines (rules (16 + shape.text) t)) ≤ lines_limit) × (over_filled (rules (16 + shape.text) t) id name ≡ false)
-    asked = (omega (arith, ap (λ x. length (lines x)) (text_is fs es ns q), lines_fit), ap (λ x. over_filled x id name) (text_is fs es ns q) ∙ under)
+    asks : (from to : ℕ) → 16 + shape.text ≤ from → from ≤ to → to ≤ end → Asks from to t
+    asks from to after_text in_order within = let l = whole_length in (
+      (after_text, in_order, omega arith),
+      omega (arith, ap (λ x. length (lines x)) (text_is fs es ns q), lines_fit),
+      ap (λ x. over_filled x id name) (text_is fs es ns q) ∙ under,
+    )
 
-    pub asks_filters : (length id ≤ id_limit)
-        × (((16 ≤ 16 + shape.text) × (16 + shape.text ≤ at₁) × (at₁ ≤ at₂) × (at₂ ≤ length t))
-        × ((length (lines (rules (16 + shape.text) t)) ≤ lines_limit) × (over_filled (rules (16 + shape.text) t) id name ≡ false)))
-    asks_filters = let b = bounds in let l = whole_length in (id_fits, ((omega arith, b.0, b.1, omega arith), asked))
-
-    pub asks_eqs : (length id ≤ id_limit)
-        × (((16 ≤ 16 + shape.text) × (16 + shape.text ≤ at₂) × (at₂ ≤ at₃) × (at₃ ≤ length t))
-        × ((length (lines (rules (16 + shape.text) t)) ≤ lines_limit) × (over_filled (rules (16 + shape.text) t) id name ≡ false)))
-    asks_eqs = let b = bounds in let l = whole_length in (id_fits, ((omega arith, omega arith, b.2, omega arith), asked))
-
-    pub asks_notes : (length id ≤ id_limit)
-        × (((16 ≤ 16 + shape.text) × (16 + shape.text ≤ at₃) × (at₃ ≤ end) × (end ≤ length t))
-        × ((length (lines (rules (16 + shape.text) t)) ≤ lines_limit) × (over_filled (rules (16 + shape.text) t) id name ≡ false)))
-    asks_notes = let b = bounds in let l = whole_length in (id_fits, ((omega arith, omega arith, b.3, omega arith), asked))
+  pub asks_filters : Asks at₁ at₂ s
+  asks_filters = let b = bounds in asks start sized _ _ b.0 b.1 (omega arith)
 
   -- what it ensures
   abbrev pub Pushes : Table → ℕ → ℕ → ℕ → List ℕ → Option ℕ → List ℕ → Type 0
@@ -589,27 +587,33 @@ module _ {session at₁ at₂ at₃ end : ℕ} {id s : List ℕ} {name : Option 
   pub record FiltersAdded (n : ℕ) (t : List ℕ) : Type 0 where
     pub fits : length w.filters ≤ v.counts.filters
     pub count : n ≡ length w.filters
+    pub few : n < 65536
     pub left : t ≡ state v FA (eq_area v) (note_area v)
 
   pub record EqsAdded (n : ℕ) (t : List ℕ) : Type 0 where
     pub fits : length w.eqs ≤ v.counts.eqs
     pub count : n ≡ length w.eqs
+    pub few : n < 65536
     pub left : t ≡ state v FA EA (note_area v)
 
   pub record NotesAdded (n : ℕ) (t : List ℕ) : Type 0 where
     pub fits : length w.notes ≤ v.counts.notes
     pub count : n ≡ length w.notes
+    pub few : n < 65536
     pub left : t ≡ state v FA EA NA
 
   pub filters_added : {t : List ℕ} {r : Option ℕ} {n : ℕ} → Pushes Filters at₁ at₂ shape.filters s r t → r ≡ Some n → FiltersAdded n t
   filters_added h e =
       let p = filters_called h in
       let U = filters_used_lem p.0 e in
-      record { fits = U.0; count = U.1; left = p.1 ∙ ap (λ l. state v l (eq_area v) (note_area v)) U.2 }
+      record { fits = U.0; count = U.1; few = omega (arith, U.0, U.1, rows_fit); left = p.1 ∙ ap (λ l. state v l (eq_area v) (note_area v)) U.2 }
 
   module _ {n : ℕ} {t : List ℕ} (A : FiltersAdded n t) where
-    pub sized₁ : Sized v FA (eq_area v) (note_area v)
+    sized₁ : Sized v FA (eq_area v) (note_area v)
     sized₁ = record { filters = filters_length A.fits; eqs = sized.eqs; notes = sized.notes }
+
+    pub asks_eqs : Asks at₂ at₃ t
+    asks_eqs = let b = bounds in asks A.left sized₁ _ _ (omega arith) b.2 b.3
 
     eqs_called : {t₁ : List ℕ} {r : Option ℕ} → Pushes Eqs at₂ at₃ shape.eqs t r t₁
         → (r ≡ all_answer (new_bytes Eqs session v.text id name) (length v.eqs) (eq_area v))
@@ -635,11 +639,14 @@ module _ {session at₁ at₂ at₃ end : ℕ} {id s : List ℕ} {name : Option 
     eqs_added h e =
         let p = eqs_called h in
         let U = eqs_used_lem p.0 e in
-        record { fits = U.0; count = U.1; left = p.1 ∙ ap (λ l. state v FA l (note_area v)) U.2 }
+        record { fits = U.0; count = U.1; few = omega (arith, U.0, U.1, rows_fit); left = p.1 ∙ ap (λ l. state v FA l (note_area v)) U.2 }
 
     module _ {m : ℕ} {t₁ : List ℕ} (B : EqsAdded m t₁) where
-      pub sized₂ : Sized v FA EA (note_area v)
+      sized₂ : Sized v FA EA (note_area v)
       sized₂ = record { filters = filters_length A.fits; eqs = eqs_length B.fits; notes = sized.notes }
+
+      pub asks_notes : Asks at₃ end t₁
+      asks_notes = let b = bounds in asks B.left sized₂ _ _ (omega arith) b.3 (omega arith)
 
       notes_called : {t₂ : List ℕ} {r : Option ℕ} → Pushes Notes at₃ end shape.notes t₁ r t₂
           → (r ≡ all_answer (new_bytes Notes session v.text id name) (length v.notes) (note_area v))
@@ -668,7 +675,7 @@ module _ {session at₁ at₂ at₃ end : ℕ} {id s : List ℕ} {name : Option 
       notes_added h e =
           let p = notes_called h in
           let U = notes_used_lem p.0 e in
-          record { fits = U.0; count = U.1; left = p.1 ∙ ap (λ l. state v FA EA l) U.2 }
+          record { fits = U.0; count = U.1; few = omega (arith, U.0, U.1, rows_fit); left = p.1 ∙ ap (λ l. state v FA EA l) U.2 }
 
       -- the numbers in the header
       pub all_added : {t₂ t₃ t₄ t₅ : List ℕ} {k : ℕ} → NotesAdded k t₂ → t₃ ≡ pasted 10 (u16 n) t₂ → t₄ ≡ pasted 12 (u16 m) t₃ → t₅ ≡ pasted 14 (u16 k) t₄

@@ -82,6 +82,7 @@ impl RowTest for NotesOf {
 }
 
 // A client has disconnected: its rows that the session's notes name go; the notes stay.
+#[tactic(auto, unfolding(store::specs::Store::store_length, store::specs::Layout::filters_at, store::specs::Layout::eqs_at, store::specs::Layout::notes_at))]
 pub fn disconnected(store: &mut [u8], session: u64, id: &[u8]) -> Result<(), Refusal>
     ensures result_value { event.says result ≡ event.cause (event.disconnected session id.now) (view store.old) }
     ensures store_after { store.new ≡ event.after (event.disconnected session id.now) store.old }
@@ -108,6 +109,7 @@ pub fn disconnected(store: &mut [u8], session: u64, id: &[u8]) -> Result<(), Ref
 }
 
 // A session has ended: its notes go.
+#[tactic(auto, unfolding(store::specs::Store::store_length, store::specs::Layout::filters_at, store::specs::Layout::eqs_at, store::specs::Layout::notes_at))]
 pub fn ended(store: &mut [u8], session: u64) -> Result<(), Refusal>
     ensures result_value { event.says result ≡ event.cause (event.ended session) (view store.old) }
     ensures store_after { store.new ≡ event.after (event.ended session) store.old }

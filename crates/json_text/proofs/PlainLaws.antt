@@ -1,7 +1,6 @@
 -- Laws of plain strings: their ends byte by byte, and that such a string is its own decoded text. Assumes nothing.
 use Prim.Native.Nat.{ℕ, zero, suc, ◌+◌, ◌-◌, ◌≤◌, ◌<◌}
 use native.Mathlib.Nat.{zero-add}
-use native.Mathlib.Numerals.{add-one}
 use native.Mathlib.Omega.{arith}
 use mathlib.Core.Path.{◌≡◌, refl, sym, ap, ◌∙◌}
 use mathlib.Core.Bool.{Bool, true, false, cond}
@@ -10,8 +9,8 @@ use Rattle.std.specs.Prelude.{Option, Some, None, Result, Ok, Err}
 use Rattle.text.specs.Maybe.{bind}
 use lib.Dec.{eqb}
 use borrow.Author.Tests.{eqb-true}
-use lib.ListN.{length, get_or, take, drop, drop_of_length-le}
-use lib.Seq.{drop-cons, drop-drop}
+use lib.ListN.{length, take, drop, drop_of_length-le}
+use lib.Seq.{drop-drop}
 use Rattle.text.specs.Text.{fits_at, pasted, written}
 use Rattle.json_text.specs.Utf8.{byte_at, between}
 use Rattle.json_text.specs.Strings.{quote, Decoded, is_plain, piece_of, string_from, string_at}

@@ -16,7 +16,7 @@ use lib.Seq.{drop-cons}
 use borrow.Author.Tests.{eqb-true, ne_eqb}
 use Rattle.text.specs.Ascii.{ascii}
 use Rattle.text.specs.Text.{begins}
-use Rattle.text.proofs.Laws.{isnt, begins-length}
+use Rattle.text.proofs.Laws.{begins-length}
 use Rattle.json_text.specs.Utf8.{no_byte, byte_at, between, utf8}
 use Rattle.json_text.specs.Strings.{quote, Decoded, piece_of, grown, string_from, string_at}
 use Rattle.json_text.specs.Json.{Json, null, bool, Read, is_at, is_blank, blanks, skip_blanks, kind_of, digits, decimal, plain_number, number_at, word_at, text_at, name_at, separator_at}

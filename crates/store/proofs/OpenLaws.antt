@@ -135,17 +135,19 @@ module _ (c : Counts) (text : List ℕ) (room : ℕ) where
   unfolding open_fault
   fault_counts e = rw e
 
-  pub fault_length : counts_fit c ≡ true → (room ≡ store_length c → ⊥) → open_fault c text room ≡ Some (record { cause = CountsCause; line = 0 })
-  unfolding open_fault
-  fault_length e h = rw (e, ne_eqb room (store_length c) h)
+  -- `d` are the counts that were read
+  module _ {d : Counts} (read : (counts_fit c ≡ true) × (d ≡ c)) where
+    pub fault_length : (room ≡ store_length d → ⊥) → open_fault c text room ≡ Some (record { cause = CountsCause; line = 0 })
+    unfolding open_fault
+    fault_length h = rw (read.0, ne_eqb room (store_length c) (λ e. h (e ∙ sym (ap store_length read.1))))
 
-  pub fault_over : counts_fit c ≡ true → room ≡ store_length c → c.bytes < length text → open_fault c text room ≡ Some (record { cause = TooLong; line = 0 })
-  unfolding open_fault
-  fault_over e h k = rw (e, eq-eqb room (store_length c) h, lt-ltb c.bytes (length text) k)
+    pub fault_over : room ≡ store_length d → d.bytes < length text → open_fault c text room ≡ Some (record { cause = TooLong; line = 0 })
+    unfolding open_fault
+    fault_over h k = rw (read.0, eq-eqb room (store_length c) (h ∙ ap store_length read.1), lt-ltb c.bytes (length text) (rw read.1 at k))
 
-  pub fault_text : counts_fit c ≡ true → room ≡ store_length c → length text ≤ c.bytes → open_fault c text room ≡ text_fault text
-  unfolding open_fault
-  fault_text e h k = rw (e, eq-eqb room (store_length c) h, le-ltb c.bytes (length text) k)
+    pub fault_text : room ≡ store_length d → length text ≤ d.bytes → open_fault c text room ≡ text_fault text
+    unfolding open_fault
+    fault_text h k = rw (read.0, eq-eqb room (store_length c) (h ∙ ap store_length read.1), le-ltb c.bytes (length text) (rw read.1 at k))
 
 -- ---- the answer and the store afterwards
 

@@ -1,16 +1,17 @@
 -- Laws of the check of a whole store: what its tests told, each of a stretch of the code's own, and its two answers. Assumes nothing but
 -- that the elements are bytes.
 use Prim.Native.Nat.{ℕ, suc, ◌-◌, ◌*◌}
-use mathlib.Core.Path.{◌≡◌, refl, sym, ◌∙◌}
+use mathlib.Core.Path.{◌≡◌, refl, sym, ap, ◌∙◌}
 use mathlib.Core.Bool.{Bool, true, false, cond}
 use mathlib.Core.List.{List}
 use Rattle.std.specs.Prelude.{Option, None, Some}
 use native.Mathlib.Omega.{arith}
 use borrow.Author.Tests.{eq-eqb}
-use lib.ListN.{length, take, drop}
+use mir.Syntax.{w8}
+use mir.Val.{Fits}
+use lib.ListN.{length, take, drop, get_or}
 use Rattle.text.proofs.Laws.{isnt}
 use Rattle.table.specs.Bytes.{number}
-use Rattle.table.proofs.JoinLaws.{Bytes}
 use Rattle.store.specs.declared.Counts.{Counts}
 use Rattle.store.specs.Store.{counts_fit, store_length, filter_size, eq_size, note_size, session_limit}
 use Rattle.store.specs.Layout.{counts, text_used, filters_used, eqs_used, notes_used, filters_at, eqs_at, notes_at, text_part, filter_part, eq_part, note_part}
@@ -20,19 +21,19 @@ use Rattle.store.proofs.ViewLaws.{Laid, laid, shape_laid_out, shape_malformed}
 
 -- ---- the answers
 
-pub shape_not : (s : List ℕ) → Bytes s → (Laid s → ⊥) → None ≡ shape_of (view s)
-shape_not s y h = sym (shape_malformed s y (isnt (laid_out s) (λ e. h (laid s e))))
+pub shape_not : (s : List ℕ) → ((i : ℕ) → Fits w8 (get_or s i 0)) → (Laid s → ⊥) → None ≡ shape_of (view s)
+shape_not s y h = sym (shape_malformed s (λ i. omega (arith, y i)) (isnt (laid_out s) (λ e. h (laid s e))))
 
 pub laid_made : (s : List ℕ) → Laid s → laid_out s ≡ true
 unfolding laid_out
 laid_made s l = rw (l.fits, eq-eqb _ _ l.size, l.text, l.filters, l.eqs) l.notes
 
-pub shape_is : {d : Counts} {text filters eqs notes : ℕ} (s : List ℕ) → Bytes s → Laid s → d ≡ counts s → text ≡ number (drop 8 s)
+pub shape_is : {d : Counts} {text filters eqs notes : ℕ} (s : List ℕ) → ((i : ℕ) → Fits w8 (get_or s i 0)) → Laid s → d ≡ counts s → text ≡ number (drop 8 s)
     → filters ≡ number (drop 10 s) → eqs ≡ number (drop 12 s) → notes ≡ number (drop 14 s)
     → Some (record { counts = d; text = text; filters = filters; eqs = eqs; notes = notes }) ≡ shape_of (view s)
 unfolding text_used filters_used eqs_used notes_used
 shape_is s y l p q r t u =
-    (λ i. Some (record { counts = p i; text = q i; filters = r i; eqs = t i; notes = u i })) ∙ sym (shape_laid_out s y (laid_made s l))
+    (λ i. Some (record { counts = p i; text = q i; filters = r i; eqs = t i; notes = u i })) ∙ sym (shape_laid_out s (λ i. omega (arith, y i)) (laid_made s l))
 
 -- ---- the header
 
@@ -68,11 +69,11 @@ note_cut {from} s e p = let n : length s - from ≡ (counts s).notes * note_size
 
 -- ---- what each test told
 
-module _ {answer : Option ℕ} {used at : ℕ} (s : List ℕ) (p : used ≡ number (drop 8 s)) (q : at ≡ filters_at (counts s))
+module _ {answer : Option ℕ} {used at : ℕ} {s : List ℕ} {d : Counts} (C : Counted s d) (p : used ≡ number (drop 8 s)) (q : at ≡ filters_at d)
     (h : answer ≡ text_rules used (take (at - 16) (drop 16 s))) where
   of_text : answer ≡ cond (text_fine (text_used s) (text_part s)) (Some (rules_of s)) None
   unfolding text_rules text_used rules_of
-  of_text = rw (text_cut s q, p) at h
+  of_text = rw (text_cut s (q ∙ ap filters_at C.read), p) at h
 
   pub rules_told : {n : ℕ} → answer ≡ Some n → (text_fine (text_used s) (text_part s) ≡ true) × (n ≡ rules_of s)
   rules_told {n} e = by (text_fine (text_used s) (text_part s)) (sym e ∙ of_text)
@@ -88,20 +89,20 @@ module _ {answer : Option ℕ} {used at : ℕ} (s : List ℕ) (p : used ≡ numb
       by true k = let z : ◌≡◌ {A = ℕ} 0 1 = cc in absurd (omega arith)
       by false k = refl
 
-pub filters_told : {answer : Bool} {bound used from to : ℕ} (s : List ℕ) → bound ≡ rules_of s → used ≡ number (drop 10 s) → from ≡ filters_at (counts s)
-    → to ≡ eqs_at (counts s) → answer ≡ table_fine filter_size (filter_fine bound) used (take (to - from) (drop from s))
+pub filters_told : {answer : Bool} {bound used from to : ℕ} {s : List ℕ} {d : Counts} → Counted s d → bound ≡ rules_of s → used ≡ number (drop 10 s) → from ≡ filters_at d
+    → to ≡ eqs_at d → answer ≡ table_fine filter_size (filter_fine bound) used (take (to - from) (drop from s))
     → answer ≡ table_fine filter_size (filter_fine (rules_of s)) (filters_used s) (filter_part s)
 unfolding filters_used
-filters_told s b u p q h = rw (filter_cut s p q, b, u) at h
+filters_told {s = s} C b u p q h = rw (filter_cut s (p ∙ ap filters_at C.read) (q ∙ ap eqs_at C.read), b, u) at h
 
-pub eqs_told : {answer : Bool} {bound used from to : ℕ} (s : List ℕ) → bound ≡ rules_of s → used ≡ number (drop 12 s) → from ≡ eqs_at (counts s)
-    → to ≡ notes_at (counts s) → answer ≡ table_fine eq_size (numbered_fine bound) used (take (to - from) (drop from s))
+pub eqs_told : {answer : Bool} {bound used from to : ℕ} {s : List ℕ} {d : Counts} → Counted s d → bound ≡ rules_of s → used ≡ number (drop 12 s) → from ≡ eqs_at d
+    → to ≡ notes_at d → answer ≡ table_fine eq_size (numbered_fine bound) used (take (to - from) (drop from s))
     → answer ≡ table_fine eq_size (numbered_fine (rules_of s)) (eqs_used s) (eq_part s)
 unfolding eqs_used
-eqs_told s b u p q h = rw (eq_cut s p q, b, u) at h
+eqs_told {s = s} C b u p q h = rw (eq_cut s (p ∙ ap eqs_at C.read) (q ∙ ap notes_at C.read), b, u) at h
 
-pub notes_told : {answer : Bool} {used from : ℕ} (s : List ℕ) → length s ≡ store_length (counts s) → used ≡ number (drop 14 s) → from ≡ notes_at (counts s)
+pub notes_told : {answer : Bool} {used from : ℕ} {s : List ℕ} {d : Counts} → Counted s d → used ≡ number (drop 14 s) → from ≡ notes_at d
     → answer ≡ table_fine note_size (numbered_fine (suc session_limit)) used (take (length s - from) (drop from s))
     → answer ≡ table_fine note_size (numbered_fine (suc session_limit)) (notes_used s) (note_part s)
 unfolding notes_used
-notes_told s e u p h = rw (note_cut s e p, u) at h
+notes_told {s = s} C u p h = rw (note_cut s C.size (p ∙ ap notes_at C.read), u) at h

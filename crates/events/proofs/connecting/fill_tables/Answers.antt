@@ -16,15 +16,15 @@ use Rattle.store.proofs.PartLaws.{seen_as}
 use Rattle.events.specs.Event.{says, connected, argument_causes}
 use Rattle.events.specs.Templates.{over_filled}
 use Rattle.events.specs.Pushes.{replaced, table_at, table_end, table_used}
-use Rattle.events.proofs.StoreLaws.{Ready, rows_fit, start, sized, asks_filters, asks_eqs, asks_notes, filters_full, filters_added, sized₁, eqs_full, eqs_added, sized₂, notes_full, notes_added, all_added}
+use Rattle.events.proofs.StoreLaws.{Ready, FiltersAdded, EqsAdded, NotesAdded, asks_filters, asks_eqs, asks_notes, filters_full, filters_added, eqs_full, eqs_added, notes_full, notes_added, all_added}
+use Rattle.events.proofs.connecting.fill_tables.Goals.{In-Some, In-Some-push_all, In-Some-push_all-2}
 use Rattle.events.proofs.connecting.fill_tables.Goals as goal
 
 -- what is known before the first table is filled
-ready_by : {session at₁ at₂ at₃ end : ℕ} {id : List ℕ} {name : Option (List ℕ)} (s : List ℕ) (shape : Shape) → shape_of (view s) ≡ Some shape
+ready : {session : ℕ} {id s : List ℕ} {name : Option (List ℕ)} {shape : Shape} → shape_of (view s) ≡ Some shape
     → first (argument_causes (connected session id name)) ≡ None → ((v : View) → view s ≡ Some v → over_filled v.text id name ≡ false)
-    → at₁ ≡ filters_at shape.counts → at₂ ≡ eqs_at shape.counts → at₃ ≡ notes_at shape.counts → end ≡ store_length shape.counts
-    → Ready session id name s shape at₁ at₂ at₃ end
-ready_by s shape laid fine under filters eqs notes end =
+    → Ready session id name s shape (filters_at shape.counts) (eqs_at shape.counts) (notes_at shape.counts) (store_length shape.counts)
+ready {s = s} {shape} laid fine under =
     let g = seen_as (view s) shape laid in
     record {
       v = g.seen;
@@ -32,91 +32,84 @@ ready_by s shape laid fine under filters eqs notes end =
       fine = fine;
       under = under g.seen g.is;
       shaped = g.shaped;
-      filters_place = filters;
-      eqs_place = eqs;
-      notes_place = notes;
-      ends = end;
+      filters_place = refl;
+      eqs_place = refl;
+      notes_place = refl;
+      ends = refl;
     }
+
+-- the filters are added; the eqs too; the notes too
+filters_in : (c : In-Some) → FiltersAdded (ready c.requires.store_value c.requires.names_value c.requires.names_value_2) c.in-Some.filters c.push_all.new.store
+unfolding replaced table_at table_end table_used
+filters_in c = filters_added _ (c.push_all.ensures.value, c.push_all.ensures.store_after) c.in-Some.is
+
+eqs_in : (c : In-Some-push_all) → EqsAdded (ready c.requires.store_value c.requires.names_value c.requires.names_value_2) c.in-Some-push_all.eqs c.push_all-2.new.store
+unfolding replaced table_at table_end table_used
+eqs_in c =
+    let A = filters_added _ (c.push_all.ensures.value, c.push_all.ensures.store_after) c.in-Some.is in
+    eqs_added _ A (c.push_all-2.ensures.value, c.push_all-2.ensures.store_after) c.in-Some-push_all.is
+
+notes_in : (c : In-Some-push_all-2) → NotesAdded (ready c.requires.store_value c.requires.names_value c.requires.names_value_2) c.in-Some-push_all-2.notes c.push_all-3.new.store
+unfolding replaced table_at table_end table_used
+notes_in c =
+    let A = filters_added _ (c.push_all.ensures.value, c.push_all.ensures.store_after) c.in-Some.is in
+    let B = eqs_added _ A (c.push_all-2.ensures.value, c.push_all-2.ensures.store_after) c.in-Some-push_all.is in
+    notes_added _ A B (c.push_all-3.ensures.value, c.push_all-3.ensures.store_after) c.in-Some-push_all-2.is
 
 pub push_all-requires : goal.push_all-requires
 unfolding replaced table_at table_end table_used
 push_all-requires c =
-    let ready = ready_by c.args.store.now c.args.shape c.requires.store_value c.requires.names_value c.requires.names_value_2 refl refl refl refl in
-    let g = ready in
-    let whole = asks_filters g (start g) (sized g) in record { in_order = (whole.1.0.1, whole.1.0.2, whole.1.0.3); few_lines = whole.1.1.0; none_over = whole.1.1.1 }
+    let whole = asks_filters (ready c.requires.store_value c.requires.names_value c.requires.names_value_2) in record { in_order = whole.0; few_lines = whole.1; none_over = whole.2 }
 
 pub returns-in_default : goal.returns-in_default
 unfolding says number replaced table_at table_end table_used
 returns-in_default c =
-    let ready = ready_by c.args.store.now c.args.shape c.requires.store_value c.requires.names_value c.requires.names_value_2 refl refl refl refl in
-    let whole = filters_full ready (c.push_all.ensures.value, c.push_all.ensures.store_after) c.in_default.is c.put_back.ensures in record { result_value = whole.0; store_after = whole.1 }
+    let g = ready c.requires.store_value c.requires.names_value c.requires.names_value_2 in
+    let whole = filters_full g (c.push_all.ensures.value, c.push_all.ensures.store_after) c.in_default.is c.put_back.ensures in
+    record { result_value = whole.0; store_after = whole.1 }
 
 pub push_all-requires-2 : goal.push_all-requires-2
 unfolding replaced table_at table_end table_used
 push_all-requires-2 c =
-    let ready = ready_by c.args.store.now c.args.shape c.requires.store_value c.requires.names_value c.requires.names_value_2 refl refl refl refl in
-    let filters_in = filters_added ready (c.push_all.ensures.value, c.push_all.ensures.store_after) c.in-Some.is in
-    let g = ready in
-    let f = filters_in in
-    let whole = asks_eqs g f.left (sized₁ g f) in record { in_order = (whole.1.0.1, whole.1.0.2, whole.1.0.3); few_lines = whole.1.1.0; none_over = whole.1.1.1 }
+    let whole = asks_eqs _ (filters_in (goal.at.push_all-requires-2 c).In-Some) in record { in_order = whole.0; few_lines = whole.1; none_over = whole.2 }
 
 pub returns-in_default-push_all : goal.returns-in_default-push_all
 unfolding says number replaced table_at table_end table_used
 returns-in_default-push_all c =
-    let ready = ready_by c.args.store.now c.args.shape c.requires.store_value c.requires.names_value c.requires.names_value_2 refl refl refl refl in
-    let filters_in = filters_added ready (c.push_all.ensures.value, c.push_all.ensures.store_after) c.in-Some.is in
-    let whole = eqs_full ready filters_in (c.push_all-2.ensures.value, c.push_all-2.ensures.store_after) c.in_default-push_all.is c.put_back-in_default-push_all.ensures in record { result_value = whole.0; store_after = whole.1 }
+    let f = filters_in (goal.at.returns-in_default-push_all c).In-Some in
+    let whole = eqs_full _ f (c.push_all-2.ensures.value, c.push_all-2.ensures.store_after) c.in_default-push_all.is c.put_back-in_default-push_all.ensures in
+    record { result_value = whole.0; store_after = whole.1 }
 
 pub push_all-requires-3 : goal.push_all-requires-3
 unfolding replaced table_at table_end table_used
 push_all-requires-3 c =
-    let ready = ready_by c.args.store.now c.args.shape c.requires.store_value c.requires.names_value c.requires.names_value_2 refl refl refl refl in
-    let filters_in = filters_added ready (c.push_all.ensures.value, c.push_all.ensures.store_after) c.in-Some.is in
-    let eqs_in = eqs_added ready filters_in (c.push_all-2.ensures.value, c.push_all-2.ensures.store_after) c.in-Some-push_all.is in
-    let g = ready in let f = filters_in in let e = eqs_in in
-    let whole = asks_notes g e.left (sized₂ g f e) in record { in_order = (whole.1.0.1, whole.1.0.2, whole.1.0.3); few_lines = whole.1.1.0; none_over = whole.1.1.1 }
+    let at = goal.at.push_all-requires-3 c in
+    let whole = asks_notes _ (filters_in at.In-Some) (eqs_in at.In-Some-push_all) in record { in_order = whole.0; few_lines = whole.1; none_over = whole.2 }
 
 pub returns-in_default-push_all-2 : goal.returns-in_default-push_all-2
 unfolding says number replaced table_at table_end table_used
 returns-in_default-push_all-2 c =
-    let ready = ready_by c.args.store.now c.args.shape c.requires.store_value c.requires.names_value c.requires.names_value_2 refl refl refl refl in
-    let filters_in = filters_added ready (c.push_all.ensures.value, c.push_all.ensures.store_after) c.in-Some.is in
-    let eqs_in = eqs_added ready filters_in (c.push_all-2.ensures.value, c.push_all-2.ensures.store_after) c.in-Some-push_all.is in
-    let whole = notes_full ready filters_in eqs_in (c.push_all-3.ensures.value, c.push_all-3.ensures.store_after) c.in_default-push_all-2.is c.put_back-in_default-push_all-2.ensures in record { result_value = whole.0; store_after = whole.1 }
+    let at = goal.at.returns-in_default-push_all-2 c in
+    let whole = notes_full _ (filters_in at.In-Some) (eqs_in at.In-Some-push_all) (c.push_all-3.ensures.value, c.push_all-3.ensures.store_after)
+    c.in_default-push_all-2.is c.put_back-in_default-push_all-2.ensures in
+    record { result_value = whole.0; store_after = whole.1 }
 
 pub overflow_cast-filters : goal.overflow_cast-filters
-unfolding replaced table_at table_end table_used
-overflow_cast-filters c =
-    let ready = ready_by c.args.store.now c.args.shape c.requires.store_value c.requires.names_value c.requires.names_value_2 refl refl refl refl in
-    let filters_in = filters_added ready (c.push_all.ensures.value, c.push_all.ensures.store_after) c.in-Some.is in
-    let f = filters_in in omega (arith, f.fits, f.count, rows_fit ready)
+overflow_cast-filters c = omega (arith, (filters_in (goal.at.overflow_cast-filters c).In-Some).few)
 
 pub overflow_cast-eqs : goal.overflow_cast-eqs
-unfolding replaced table_at table_end table_used
-overflow_cast-eqs c =
-    let ready = ready_by c.args.store.now c.args.shape c.requires.store_value c.requires.names_value c.requires.names_value_2 refl refl refl refl in
-    let filters_in = filters_added ready (c.push_all.ensures.value, c.push_all.ensures.store_after) c.in-Some.is in
-    let eqs_in = eqs_added ready filters_in (c.push_all-2.ensures.value, c.push_all-2.ensures.store_after) c.in-Some-push_all.is in
-    let e = eqs_in in omega (arith, e.fits, e.count, rows_fit ready)
+overflow_cast-eqs c = omega (arith, (eqs_in (goal.at.overflow_cast-eqs c).In-Some-push_all).few)
 
 pub overflow_cast-notes : goal.overflow_cast-notes
-unfolding replaced table_at table_end table_used
-overflow_cast-notes c =
-    let ready = ready_by c.args.store.now c.args.shape c.requires.store_value c.requires.names_value c.requires.names_value_2 refl refl refl refl in
-    let filters_in = filters_added ready (c.push_all.ensures.value, c.push_all.ensures.store_after) c.in-Some.is in
-    let eqs_in = eqs_added ready filters_in (c.push_all-2.ensures.value, c.push_all-2.ensures.store_after) c.in-Some-push_all.is in
-    let notes_in = notes_added ready filters_in eqs_in (c.push_all-3.ensures.value, c.push_all-3.ensures.store_after) c.in-Some-push_all-2.is in
-    let n = notes_in in omega (arith, n.fits, n.count, rows_fit ready)
+overflow_cast-notes c = omega (arith, (notes_in (goal.at.overflow_cast-notes c).In-Some-push_all-2).few)
 
 pub shape_of-store : goal.shape_of-store
 shape_of-store c =
     c.put_number-3.auto.bytes ∙ (c.put_number-2.auto.bytes ∙ (c.put_number.auto.bytes ∙ (c.push_all-3.auto.store ∙ (c.push_all-2.auto.store ∙ c.push_all.auto.store))))
 
 pub returns : goal.returns
-unfolding says replaced table_at table_end table_used
+unfolding says
 returns c =
-    let ready = ready_by c.args.store.now c.args.shape c.requires.store_value c.requires.names_value c.requires.names_value_2 refl refl refl refl in
-    let filters_in = filters_added ready (c.push_all.ensures.value, c.push_all.ensures.store_after) c.in-Some.is in
-    let eqs_in = eqs_added ready filters_in (c.push_all-2.ensures.value, c.push_all-2.ensures.store_after) c.in-Some-push_all.is in
-    let notes_in = notes_added ready filters_in eqs_in (c.push_all-3.ensures.value, c.push_all-3.ensures.store_after) c.in-Some-push_all-2.is in
-    let whole = all_added ready filters_in eqs_in notes_in c.put_number.ensures c.put_number-2.ensures c.put_number-3.ensures in record { result_value = whole.0; store_after = whole.1 }
+    let at = goal.at.returns c in
+    let whole = all_added _ (filters_in at.In-Some) (eqs_in at.In-Some-push_all) (notes_in at.In-Some-push_all-2) c.put_number.ensures c.put_number-2.ensures c.put_number-3.ensures in
+    record { result_value = whole.0; store_after = whole.1 }

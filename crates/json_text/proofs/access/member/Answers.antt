@@ -9,7 +9,15 @@ use Rattle.json_text.proofs.ScanLaws.{comma_next}
 use Rattle.json_text.proofs.ValueLaws.{members_past, item_next}
 use Rattle.json_text.proofs.AccessSteps.{last_in, named_from, named_by, named_behind, named_on, named_step}
 use Rattle.json_text.proofs.access.member.Goals as goal
-use Rattle.json_text.proofs.access.member.Goals.{then-string_is, else-string_is}
+use Rattle.json_text.proofs.access.member.Goals.{After-item, then-string_is, else-string_is}
+
+-- the value found so far, this member's included
+found_here : (c : After-item) → c.if-string_is.found ≡ cond (string_is c.args.line.now c.loop-i.i c.args.wanted.now) (member_value c.args.line.now c.loop-i.i) c.loop-i.found
+found_here c =
+    elim c.if-string_is.branch [
+      | then-string_is w ↦ w.found-is ∙ (w.member_value-found.ensures ∙ ap (λ (b : Bool). cond b (member_value c.args.line.now c.loop-i.i) c.loop-i.found) (sym (sym c.string_is.ensures ∙ w.if-string_is.true)))
+      | else-string_is w ↦ w.found-is ∙ ap (λ (b : Bool). cond b (member_value c.args.line.now c.loop-i.i) c.loop-i.found) (sym (sym c.string_is.ensures ∙ w.if-string_is.false))
+    ]
 
 pub returns-in_err-first : goal.returns-in_err-first
 unfolding named_from
@@ -24,23 +32,15 @@ loop-i-init c =
 pub returns-in_err-behind : goal.returns-in_err-behind
 unfolding named_on
 returns-in_err-behind c =
-    let found_here : c.if-string_is.found ≡ cond (string_is c.args.line.now c.loop-i.i c.args.wanted.now) (member_value c.args.line.now c.loop-i.i) c.loop-i.found = elim c.if-string_is.branch [
-      | then-string_is w ↦ w.found-is ∙ (w.member_value-found.ensures ∙ ap (λ (b : Bool). cond b (member_value c.args.line.now c.loop-i.i) c.loop-i.found) (sym (sym c.string_is.ensures ∙ w.if-string_is.true)))
-      | else-string_is w ↦ w.found-is ∙ ap (λ (b : Bool). cond b (member_value c.args.line.now c.loop-i.i) c.loop-i.found) (sym (sym c.string_is.ensures ∙ w.if-string_is.false))
-    ] in
     c.from_residual-in_err-behind.ensures
-    ∙ ap (λ (f : Option ℕ). named_on c.args.wanted.now c.args.line.now f None) found_here
+    ∙ ap (λ (f : Option ℕ). named_on c.args.wanted.now c.args.line.now f None) (found_here (goal.at.returns-in_err-behind c).After-item)
     ∙ (sym (named_step c.args.wanted.now c.args.line.now c.loop-i.found c.loop-i.i c.loop-i-test.true (sym c.item.ensures ∙ c.in_err-behind.was)) ∙ c.loop-i.invariant)
 
 pub returns-in-Close : goal.returns-in-Close
 unfolding named_behind named_on
 returns-in-Close c =
-    let found_here : c.if-string_is.found ≡ cond (string_is c.args.line.now c.loop-i.i c.args.wanted.now) (member_value c.args.line.now c.loop-i.i) c.loop-i.found = elim c.if-string_is.branch [
-      | then-string_is w ↦ w.found-is ∙ (w.member_value-found.ensures ∙ ap (λ (b : Bool). cond b (member_value c.args.line.now c.loop-i.i) c.loop-i.found) (sym (sym c.string_is.ensures ∙ w.if-string_is.true)))
-      | else-string_is w ↦ w.found-is ∙ ap (λ (b : Bool). cond b (member_value c.args.line.now c.loop-i.i) c.loop-i.found) (sym (sym c.string_is.ensures ∙ w.if-string_is.false))
-    ] in
     ap (named_behind c.args.wanted.now c.args.line.now c.if-string_is.found) (sym (c.in_ok-separator.was ∙ ap Some c.in-Close.is) ∙ c.separator.ensures)
-    ∙ (ap (λ (f : Option ℕ). named_on c.args.wanted.now c.args.line.now f (Some c.in_ok-behind.behind)) found_here
+    ∙ (ap (λ (f : Option ℕ). named_on c.args.wanted.now c.args.line.now f (Some c.in_ok-behind.behind)) (found_here (goal.at.returns-in-Close c).After-item)
     ∙ (sym (named_step c.args.wanted.now c.args.line.now c.loop-i.found c.loop-i.i c.loop-i-test.true (sym c.item.ensures ∙ c.in_ok-behind.was)) ∙ c.loop-i.invariant))
 
 pub loop-i-smaller : goal.loop-i-smaller
@@ -54,24 +54,16 @@ loop-i-smaller c =
 pub loop-i-preserved : goal.loop-i-preserved
 unfolding named_behind named_on
 loop-i-preserved c =
-    let found_here : c.if-string_is.found ≡ cond (string_is c.args.line.now c.loop-i.i c.args.wanted.now) (member_value c.args.line.now c.loop-i.i) c.loop-i.found = elim c.if-string_is.branch [
-      | then-string_is w ↦ w.found-is ∙ (w.member_value-found.ensures ∙ ap (λ (b : Bool). cond b (member_value c.args.line.now c.loop-i.i) c.loop-i.found) (sym (sym c.string_is.ensures ∙ w.if-string_is.true)))
-      | else-string_is w ↦ w.found-is ∙ ap (λ (b : Bool). cond b (member_value c.args.line.now c.loop-i.i) c.loop-i.found) (sym (sym c.string_is.ensures ∙ w.if-string_is.false))
-    ] in
     ap (named_behind c.args.wanted.now c.args.line.now c.if-string_is.found) (sym (c.in_ok-separator.was ∙ ap Some c.in-Comma.is) ∙ c.separator.ensures)
-    ∙ (ap (λ (f : Option ℕ). named_on c.args.wanted.now c.args.line.now f (Some c.in_ok-behind.behind)) found_here
+    ∙ (ap (λ (f : Option ℕ). named_on c.args.wanted.now c.args.line.now f (Some c.in_ok-behind.behind)) (found_here (goal.at.loop-i-preserved c).After-item)
     ∙ (sym (named_step c.args.wanted.now c.args.line.now c.loop-i.found c.loop-i.i c.loop-i-test.true (sym c.item.ensures ∙ c.in_ok-behind.was)) ∙ c.loop-i.invariant))
 
 pub returns-in_err-separator : goal.returns-in_err-separator
 unfolding named_behind named_on
 returns-in_err-separator c =
-    let found_here : c.if-string_is.found ≡ cond (string_is c.args.line.now c.loop-i.i c.args.wanted.now) (member_value c.args.line.now c.loop-i.i) c.loop-i.found = elim c.if-string_is.branch [
-      | then-string_is w ↦ w.found-is ∙ (w.member_value-found.ensures ∙ ap (λ (b : Bool). cond b (member_value c.args.line.now c.loop-i.i) c.loop-i.found) (sym (sym c.string_is.ensures ∙ w.if-string_is.true)))
-      | else-string_is w ↦ w.found-is ∙ ap (λ (b : Bool). cond b (member_value c.args.line.now c.loop-i.i) c.loop-i.found) (sym (sym c.string_is.ensures ∙ w.if-string_is.false))
-    ] in
     c.from_residual-in_err-separator.ensures
     ∙ ap (named_behind c.args.wanted.now c.args.line.now c.if-string_is.found) (sym c.in_err-separator.was ∙ c.separator.ensures)
-    ∙ (ap (λ (f : Option ℕ). named_on c.args.wanted.now c.args.line.now f (Some c.in_ok-behind.behind)) found_here
+    ∙ (ap (λ (f : Option ℕ). named_on c.args.wanted.now c.args.line.now f (Some c.in_ok-behind.behind)) (found_here (goal.at.returns-in_err-separator c).After-item)
     ∙ (sym (named_step c.args.wanted.now c.args.line.now c.loop-i.found c.loop-i.i c.loop-i-test.true (sym c.item.ensures ∙ c.in_ok-behind.was)) ∙ c.loop-i.invariant))
 
 pub returns : goal.returns
