@@ -4,7 +4,7 @@ ghost use Rattle.stores.specs.Tally as spec;
 
 use std::fmt;
 
-// The default is that before the first case.
+// The default is that before the first case. `vectors` has a `Tally` too: both are programs, and one cannot use the other's types.
 #[derive(Clone, Copy, Debug, Default, PartialEq, Eq)]
 pub struct Tally {
     pub right: u64,
