@@ -23,6 +23,18 @@ kind_of word =
     (cond (same word (ascii "P")) (Some Plain)
     (cond (same word (ascii "J")) (Some Document) (cond (same word (ascii "L")) (Some Within) (cond (same word (ascii "R")) (Some RuleLine) (cond (same word (ascii "I")) (Some Identity) (cond (same word (ascii "Q")) (Some OnStore) (cond (same word (ascii "C")) (Some Client) None))))))))
 
+-- the letter of a kind
+unfoldable pub letter : Kind → ℕ
+letter Valid = 0x56
+letter Tree = 0x54
+letter Plain = 0x50
+letter Document = 0x4a
+letter Within = 0x4c
+letter RuleLine = 0x52
+letter Identity = 0x49
+letter OnStore = 0x51
+letter Client = 0x43
+
 -- a recorded answer is `yes` or `no` ..
 unfoldable pub compared : Bool → List ℕ → Option Bool
 compared answer recorded = cond (same recorded (ascii "yes")) (Some answer) (cond (same recorded (ascii "no")) (Some (not answer)) None)

@@ -66,7 +66,7 @@ impl Tallies {
     // Writes the tallies, a line a kind, as `V 12 of 12 agree`.
     pub(crate) fn print(&self, rt: &impl Print) {
         for kind in ALL {
-            let letter = kind.letter();
+            let letter = char::from(kind.letter());
             let tally = self.by_kind[kind as usize];
             let _ = println!(rt; "{letter} {tally} agree");
         }
