@@ -49,7 +49,6 @@ pub struct Judged {
 }
 
 // The kind that the first field of a line names.
-#[tactic(auto, using(crate::proofs::Laws::by_letter))]
 fn kind_of(word: &[u8]) -> Option<Kind>
     ensures { result ≡ spec.kind_of word.now }
 {
@@ -113,7 +112,7 @@ impl Kind {
     // The letter that names the kind.
     #[tactic(auto, unfolding(crate::specs::Judging::letter, crate::specs::Judging::kind_of, text::specs::Text::same))]
     pub fn letter(self) -> u8
-        ensures value { result ≡ spec.letter self }
+        ensures value { result ∷ [] ≡ spec.letter self }
         ensures names { spec.kind_of (result ∷ []) ≡ Some self }
     {
         match self {
