@@ -6,8 +6,8 @@ ghost use Rattle.vectors.specs.Tallies as spec;
 use crate::judging::{ALL, Judged, KINDS};
 use std::fmt;
 
-// The lines of a kind: those that agree, and all. The default is that before the first line. `stores` has a `Tally` too: both are programs, and one
-// cannot use the other's types.
+// The lines of a kind: those that agree, and all. The default is that before the first line. `stores` has a `Tally` too: both are programs, neither
+// can use the other's types, and no library below them counts cases.
 #[derive(Clone, Copy, Debug, Default, PartialEq, Eq)]
 pub struct Tally {
     pub agreed: u64,
