@@ -2,7 +2,7 @@
 // client, and how many rows a store uses.
 #![tactic(auto)]
 
-ghost use Rattle.std.specs.Prelude.{◌≡◌, ◌+◌, ◌≤◌, true, false, length};
+ghost use Rattle.std.specs.Prelude.{◌≡◌, ◌+◌, ◌^◌, ◌<◌, ◌≤◌, true, false, length};
 ghost use Rattle.store.specs.View.{view};
 ghost use Rattle.hosting.specs.Hosting as spec;
 ghost use Rattle.hosting.specs.Walk as walk;
@@ -11,13 +11,26 @@ use events::templates::topics;
 use json_text::splitting::Lines;
 use rule::Topic;
 use rule::topic_list::topic_at;
+use std::ops::AddAssign;
 use store::check;
 
-// How many filter and eq templates there are.
-#[derive(Clone, Copy, Debug, PartialEq, Eq)]
+// How many filter and eq templates there are. The default is none.
+#[derive(Clone, Copy, Debug, Default, PartialEq, Eq)]
 pub struct Templates {
     pub filters: usize,
     pub eqs: usize,
+}
+
+// Adds each count. Each sum has to fit in a `usize`.
+impl AddAssign for Templates {
+    ghost can_add_assign = { λ sum more. (sum.filters + more.filters < 2 ^ 64) × (sum.eqs + more.eqs < 2 ^ 64) };
+
+    ghost add_assign_gives = { λ sum more after. after ≡ record { filters = sum.filters + more.filters; eqs = sum.eqs + more.eqs } };
+
+    fn add_assign(&mut self, more: Templates) {
+        self.filters += more.filters;
+        self.eqs += more.eqs;
+    }
 }
 
 // The used filter, eq and note rows of a store.
@@ -52,7 +65,7 @@ fn counted(topic: Option<Topic>) -> Templates
     match topic {
         Some(Topic::Template(_)) => Templates { filters: 1, eqs: 0 },
         Some(Topic::EqTemplate(_)) => Templates { filters: 0, eqs: 1 },
-        _ => Templates { filters: 0, eqs: 0 },
+        _ => Templates::default(),
     }
 }
 
@@ -61,14 +74,11 @@ fn line_templates(line: &[u8]) -> Templates
     ensures value { result ≡ spec.line_templates line.now }
     ensures in_bounds { (result.filters ≤ length line.now + 1) × (result.eqs ≤ length line.now + 1) }
 {
-    let mut filters = 0;
-    let mut eqs = 0;
+    let mut sum = Templates::default();
     for p in topics(line) {
-        let here = counted(topic_at(line, p));
-        filters += here.filters;
-        eqs += here.eqs;
+        sum += counted(topic_at(line, p));
     }
-    Templates { filters, eqs }
+    sum
 }
 
 // What a rule text asks of the tables for each client: at most a filter row and a note for each filter template, and an eq row for each
@@ -76,14 +86,11 @@ fn line_templates(line: &[u8]) -> Templates
 pub fn count_templates(rules: &[u8]) -> Templates
     ensures { result ≡ spec.templates rules.now }
 {
-    let mut filters = 0;
-    let mut eqs = 0;
+    let mut sum = Templates::default();
     for line in Lines::new(rules) {
-        let here = line_templates(line);
-        filters += here.filters;
-        eqs += here.eqs;
+        sum += line_templates(line);
     }
-    Templates { filters, eqs }
+    sum
 }
 
 // How many rows of each table a store uses, if it is as laid out.

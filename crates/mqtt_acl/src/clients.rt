@@ -14,7 +14,8 @@ use authinfo::times::expired;
 use authinfo::{PublishAnswer, SubscribeAnswer, Time};
 use rule::{Fault, Refusal, refusal_number};
 
-// What a subscribe is answered, as a number.
+// What a subscribe is answered, as a number. A function for each question, as in `lib`: a trait would share the arm of a refusal alone. Each
+// requires that the number is small: the rules and the question bound the rule, the line and the QoS, and their types don't say so.
 #[tactic(auto, unfolding(crate::specs::Clients::packed, crate::specs::Clients::decision_number, authinfo::specs::Answers::subscribe_says))]
 fn subscribe_number(answer: Result<SubscribeAnswer, Fault>) -> u64
     requires { clients.packed (said.subscribe_says answer) ≤ 1052832 }

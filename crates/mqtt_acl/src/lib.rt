@@ -102,13 +102,13 @@ pub fn mqtt_acl_rule_refusal(line: &[u8]) -> u8
     }
 }
 
-// A value of a call, where its flag is true. The calls hand these to `Client::new` one by one: a function for all would take as many flags
-// and values as the calls do.
+// A value of a call, where its flag is true. The calls hand these to `Client::new` one by one: `clients` has a `client_of` for its client with one
+// optional text, but one for three texts and a protocol would take eight arguments, which are no fewer lines in each call than these.
 #[tactic(auto, unfolding(crate::specs::Rules::where_true))]
 fn given<T: Copy>(has: u8, value: T) -> Option<T>
     ensures { result ≡ rules.where_true (rules.flag has) value }
 {
-    if flag(has) { Some(value) } else { None }
+    flag(has).then_some(value)
 }
 
 // The same of a text.
@@ -161,7 +161,7 @@ pub fn mqtt_acl_identity(
     identity_number(identity(line, found.users, &client))
 }
 
-// What opening answered, as a number.
+// What opening answered, as a number. It requires that this is small: the rule text bounds the line, and the line's type, `usize`, doesn't say so.
 #[tactic(auto, unfolding(crate::specs::Answers::open_number, store::specs::Opening::says))]
 fn opened_number(answer: Result<(), Fault>) -> u32
     requires { answers.open_number (opening.says answer) ≤ 66047 }
@@ -231,7 +231,8 @@ pub fn mqtt_acl_ended(store: &mut [u8], session: u64) -> u8
 }
 
 // What a connect is answered, as a number. Three functions for the three questions: a trait would share the arm of a refusal alone, and each
-// answer would need its decision as a definition, with a lemma that ties it to `connect_says` and the like.
+// answer would need its decision as a definition, with a lemma that ties it to `connect_says` and the like. Each requires that the number is
+// small: the store and the question bound the rule and the code, and the answer's type, with a `usize` and a `u64`, doesn't say so.
 #[tactic(auto, unfolding(crate::specs::Answers::packed, crate::specs::Answers::decision_number, questions::specs::Answers::connect_says))]
 fn connect_number(answer: Result<ConnectAnswer, Refusal>) -> u32
     requires { answers.packed (said.connect_says answer) ≤ 4111 }

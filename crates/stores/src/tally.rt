@@ -4,7 +4,8 @@ ghost use Rattle.stores.specs.Tally as spec;
 
 use std::fmt;
 
-// The default is that before the first case.
+// The default is that before the first case. `vectors` has a `Tally` too: both are programs, neither can use the other's types, and no library below
+// them counts cases.
 #[derive(Clone, Copy, Debug, Default, PartialEq, Eq)]
 pub struct Tally {
     pub right: u64,

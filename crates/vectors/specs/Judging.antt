@@ -1,5 +1,5 @@
 -- What a recorded line means, and whether the definitions of document 01 give its answer.
-use Rattle.std.specs.Prelude.{ℕ, ◌+◌, ◌/◌, ◌%◌, Bool, cond, not, ◌&&◌, List, [], ◌∷◌, Option, Some, None}
+use Rattle.std.specs.Prelude.{ℕ, ◌+◌, ◌/◌, ◌%◌, Bool, cond, not, ◌&&◌, List, [], ◌∷◌, find, Option, Some, None}
 use Rattle.std.specs.Option.{option_map, option_and_then}
 use Rattle.text.specs.Ascii.{ascii}
 use Rattle.text.specs.Text.{same}
@@ -15,13 +15,25 @@ use Rattle.vectors.specs.declared.judging.Kind.{Kind}
 use Rattle.vectors.specs.declared.judging.Kind.TheVariants.{Valid, Tree, Plain, Document, Within, RuleLine, Identity, OnStore, Client}
 use Rattle.vectors.specs.declared.judging.Judged.{Judged}
 
+-- all kinds, in the order in which they are declared
+abbrev pub all : List Kind
+all = Valid ∷ Tree ∷ Plain ∷ Document ∷ Within ∷ RuleLine ∷ Identity ∷ OnStore ∷ Client ∷ []
+
+-- the letter of a kind
+unfoldable pub letter : Kind → List ℕ
+letter Valid = ascii "V"
+letter Tree = ascii "T"
+letter Plain = ascii "P"
+letter Document = ascii "J"
+letter Within = ascii "L"
+letter RuleLine = ascii "R"
+letter Identity = ascii "I"
+letter OnStore = ascii "Q"
+letter Client = ascii "C"
+
 -- the kind that the first field names
 unfoldable pub kind_of : List ℕ → Option Kind
-kind_of word =
-    cond (same word (ascii "V")) (Some Valid)
-    (cond (same word (ascii "T")) (Some Tree)
-    (cond (same word (ascii "P")) (Some Plain)
-    (cond (same word (ascii "J")) (Some Document) (cond (same word (ascii "L")) (Some Within) (cond (same word (ascii "R")) (Some RuleLine) (cond (same word (ascii "I")) (Some Identity) (cond (same word (ascii "Q")) (Some OnStore) (cond (same word (ascii "C")) (Some Client) None))))))))
+kind_of word = find (λ k. same word (letter k)) all
 
 -- a recorded answer is `yes` or `no` ..
 unfoldable pub compared : Bool → List ℕ → Option Bool

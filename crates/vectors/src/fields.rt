@@ -50,7 +50,7 @@ impl<'a> Lent<'a> {
     }
 }
 
-// The text as a number, which is its first byte; 0 where there is none.
+// The text as a number, which is its first byte; 0 where there is none, as the definition of a recorded line has it.
 #[tactic(auto, unfolding(crate::specs::Fields::number))]
 pub fn number(text: &[u8]) -> u8
     ensures { result ≡ spec.number text.now }

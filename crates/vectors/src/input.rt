@@ -53,7 +53,7 @@ impl Run {
             buffer: [0; BUFFER],
             length: 0,
             long: false,
-            tallies: Tallies::none(),
+            tallies: Tallies::default(),
         }
     }
 

@@ -1,5 +1,5 @@
 // What a recorded line asks, and whether this port gives its answer. A further kind of line is a variant of `Kind`, with a place in `ALL`, a
-// letter in `kind_of` and `letter`, an arm of `agrees`, and a clause of each in specs/Judging.antt and specs/Tallies.antt.
+// letter in `letter`, an arm of `agrees`, and a clause of each in specs/Judging.antt and specs/Tallies.antt.
 ghost use Rattle.std.specs.Prelude.{◌≡◌, [], ◌∷◌, Some};
 ghost use Rattle.vectors.specs.Judging as spec;
 
@@ -49,22 +49,12 @@ pub struct Judged {
 }
 
 // The kind that the first field of a line names.
-#[tactic(auto, using(text::proofs::Laws::same_lengths), unfolding(crate::specs::Judging::kind_of, text::specs::Text::same))]
 fn kind_of(word: &[u8]) -> Option<Kind>
     ensures { result ≡ spec.kind_of word.now }
 {
-    match word {
-        b"V" => Some(Kind::Valid),
-        b"T" => Some(Kind::Tree),
-        b"P" => Some(Kind::Plain),
-        b"J" => Some(Kind::Document),
-        b"L" => Some(Kind::Within),
-        b"R" => Some(Kind::RuleLine),
-        b"I" => Some(Kind::Identity),
-        b"Q" => Some(Kind::OnStore),
-        b"C" => Some(Kind::Client),
-        _ => None,
-    }
+    ALL.iter()
+        .find(|kind| text::same(word, &[kind.letter()]))
+        .copied()
 }
 
 // Is the answer the recorded one, which is `yes` or `no`?
@@ -120,20 +110,21 @@ fn is_answer(answer: u32, word: &[u8], recorded: &[u8]) -> bool
 
 impl Kind {
     // The letter that names the kind.
-    #[tactic(auto, unfolding(crate::specs::Judging::kind_of, text::specs::Text::same))]
-    pub fn letter(self) -> char
-        ensures { spec.kind_of (result ∷ []) ≡ Some self }
+    #[tactic(auto, unfolding(crate::specs::Judging::letter, crate::specs::Judging::kind_of, text::specs::Text::same))]
+    pub fn letter(self) -> u8
+        ensures value { result ∷ [] ≡ spec.letter self }
+        ensures names { spec.kind_of (result ∷ []) ≡ Some self }
     {
         match self {
-            Kind::Valid => 'V',
-            Kind::Tree => 'T',
-            Kind::Plain => 'P',
-            Kind::Document => 'J',
-            Kind::Within => 'L',
-            Kind::RuleLine => 'R',
-            Kind::Identity => 'I',
-            Kind::OnStore => 'Q',
-            Kind::Client => 'C',
+            Kind::Valid => b'V',
+            Kind::Tree => b'T',
+            Kind::Plain => b'P',
+            Kind::Document => b'J',
+            Kind::Within => b'L',
+            Kind::RuleLine => b'R',
+            Kind::Identity => b'I',
+            Kind::OnStore => b'Q',
+            Kind::Client => b'C',
         }
     }
 

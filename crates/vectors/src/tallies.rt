@@ -4,9 +4,11 @@ ghost use Rattle.std.specs.Prelude.{◌≡◌};
 ghost use Rattle.vectors.specs.Tallies as spec;
 
 use crate::judging::{ALL, Judged, KINDS};
+use std::fmt;
 
-// The lines of a kind: those that agree, and all.
-#[derive(Clone, Copy, Debug, PartialEq, Eq)]
+// The lines of a kind: those that agree, and all. The default is that before the first line. `stores` has a `Tally` too: both are programs, neither
+// can use the other's types, and no library below them counts cases.
+#[derive(Clone, Copy, Debug, Default, PartialEq, Eq)]
 pub struct Tally {
     pub agreed: u64,
     pub asked: u64,
@@ -29,27 +31,27 @@ impl Tally {
             asked: self.asked.wrapping_add(1),
         }
     }
+}
 
-    // Writes the tally, as `V 12 of 12 agree`.
-    fn print(self, rt: &impl Print, letter: char) {
-        let Tally { agreed, asked } = self;
-        let _ = println!(rt; "{letter} {agreed} of {asked} agree");
+// As `12 of 12`.
+impl fmt::Display for Tally {
+    fn fmt<W: fmt::Write>(&self, f: &mut fmt::Formatter<W>) -> fmt::Result {
+        write!(f, "{} of {}", self.agreed, self.asked)
+    }
+}
+
+// Before the first line. By hand: a derived one would promise that each tally is its default, and this one promises `no_tallies`.
+impl Default for Tallies {
+    ghost is_default = { λ tallies. tallies ≡ spec.no_tallies };
+
+    fn default() -> Tallies {
+        Tallies {
+            by_kind: [Tally::default(); KINDS],
+        }
     }
 }
 
 impl Tallies {
-    // Before the first line.
-    pub fn none() -> Tallies
-        ensures { result ≡ spec.no_tallies }
-    {
-        Tallies {
-            by_kind: [Tally {
-                agreed: 0,
-                asked: 0,
-            }; KINDS],
-        }
-    }
-
     // One more line. A malformed one is of no kind.
     #[tactic(auto, unfolding(crate::specs::Tallies::counted))]
     pub fn count(&mut self, judged: Option<Judged>)
@@ -61,10 +63,12 @@ impl Tallies {
         }
     }
 
-    // Writes the tallies, a line a kind.
+    // Writes the tallies, a line a kind, as `V 12 of 12 agree`.
     pub(crate) fn print(&self, rt: &impl Print) {
         for kind in ALL {
-            self.by_kind[kind as usize].print(rt, kind.letter());
+            let letter = char::from(kind.letter());
+            let tally = self.by_kind[kind as usize];
+            let _ = println!(rt; "{letter} {tally} agree");
         }
     }
 }

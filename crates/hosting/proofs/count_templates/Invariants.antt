@@ -8,5 +8,5 @@ abbrev pub invariant-loop-line : goal.invariant-loop-line
 invariant-loop-line l =
     (goal.iterator-loop-line).can_next l.line-iterator
     × (goal.iterator-loop-line).is_finite l.line-iterator
-    × CountedTo false l.rules l.filters (lines l.line-iterator.rest.now)
-    × CountedTo true l.rules l.eqs (lines l.line-iterator.rest.now)
+    × CountedTo false l.rules l.sum.filters (lines l.line-iterator.rest.now)
+    × CountedTo true l.rules l.sum.eqs (lines l.line-iterator.rest.now)

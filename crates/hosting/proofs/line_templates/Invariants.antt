@@ -9,5 +9,5 @@ abbrev pub invariant-loop-p : goal.invariant-loop-p
 invariant-loop-p l =
     (goal.iterator-loop-p).can_next l.p-iterator
     × (goal.iterator-loop-p).is_finite l.p-iterator
-    × CountedIn false l.line l.filters (places_from l.p-iterator.line.now l.p-iterator.next)
-    × CountedIn true l.line l.eqs (places_from l.p-iterator.line.now l.p-iterator.next)
+    × CountedIn false l.line l.sum.filters (places_from l.p-iterator.line.now l.p-iterator.next)
+    × CountedIn true l.line l.sum.eqs (places_from l.p-iterator.line.now l.p-iterator.next)
