@@ -54,8 +54,8 @@ pub struct Asker {
     pub protocol: Option<u8>,
 }
 
-// A line that has begun: how many of its bytes are in the buffer, and whether it is longer than that.
-#[derive(Clone, Copy, Debug, PartialEq, Eq)]
+// A line that has begun: how many of its bytes are in the buffer, and whether it is longer than that. The default is that before its first byte.
+#[derive(Clone, Copy, Debug, Default, PartialEq, Eq)]
 pub struct Begun {
     pub length: usize,
     pub long: bool,

@@ -1,5 +1,5 @@
 -- What is known before anything is read.
-use Rattle.std.specs.Prelude.{Bool, true, false}
+use Rattle.std.specs.Prelude.{ℕ, true, false, Option}
 use Rattle.lines.specs.declared.Begun.{Begun}
 use Rattle.streams.specs.declared.Run.{Run}
 
@@ -7,12 +7,11 @@ use Rattle.streams.specs.declared.Run.{Run}
 abbrev pub no_line : Begun
 no_line = record { length = 0; long = false }
 
--- before the first byte: no rule, no line and no answer yet; a rule line may begin
-abbrev pub started : Bool → Run
-started headed =
+-- before the first byte: no rule, no line and no answer yet; a rule line may begin. The first line's length is `None` where it is to come
+abbrev pub started : Option ℕ → Run
+started header =
     record {
-      headed = headed;
-      header = 0;
+      header = header;
       opened = false;
       rules = record { length = 0; fresh = true };
       begun = no_line;

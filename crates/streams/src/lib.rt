@@ -12,9 +12,8 @@ use lines::{Begun, Rules};
 // the last line that was answered, and how many bytes of output wait in their buffer. A program holds it beside its buffers.
 #[derive(Clone, Copy, Debug, PartialEq, Eq)]
 pub struct Run {
-    // Is the first line whole, and how long is it?
-    pub headed: bool,
-    pub header: usize,
+    // How long is the first line, once it is whole?
+    pub header: Option<usize>,
     // Are the rules whole, and not refused?
     pub opened: bool,
     pub rules: Rules,
