@@ -5,7 +5,7 @@ use crate::writing::Answers;
 use lines::client::client_answer;
 use lines::input::{take_byte, take_rule_byte};
 use lines::output::refused_at;
-use lines::{Begun, RulesTaken, Said, Taken};
+use lines::{RulesTaken, Said, Taken};
 use rule::{LINE, Refusal};
 use std::io::{Eprint, Read, Write};
 use text::front;
@@ -28,19 +28,19 @@ impl Asking {
     // The first line is whole.
     fn headed(&mut self, length: usize) {
         self.answers.run.header = Some(length);
-        self.answers.run.begun = Begun::default();
+        self.answers.run.begun = Some(0);
     }
 
     // One byte of the first line.
     fn take_in_header(&mut self, b: u8) {
         match take_byte(self.answers.run.begun, &mut self.header, b) {
             Taken::Part(begun) => self.answers.run.begun = begun,
-            Taken::Line(n) => self.headed(n),
-            Taken::LongLine => self.headed(HEADER),
+            Taken::Line(n) => self.headed(n.unwrap_or(HEADER)),
         }
     }
 
-    // One byte of the rules. Behind what is too long only an empty line counts.
+    // One byte of the rules. Behind what is too long only an empty line counts. Not one method of `Program`: with `decide` it would share the
+    // arm of `Part` alone.
     fn take_in_rules(&mut self, b: u8) {
         match take_rule_byte(self.answers.run.rules, &mut self.rules, b) {
             RulesTaken::Part(rules) => self.answers.run.rules = rules,

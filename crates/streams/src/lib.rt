@@ -6,10 +6,12 @@ pub mod deciding;
 mod reading;
 mod writing;
 
-use lines::{Begun, Rules};
+use lines::Rules;
 
 // What is known between two bytes of the input: the first line, where the program has one, the rules and the line that has begun, the number of
-// the last line that was answered, and how many bytes of output wait in their buffer. A program holds it beside its buffers.
+// the last line that was answered, and how many bytes of output wait in their buffer. A program holds it beside its buffers, whose lengths are
+// here: there is no heap, `decide` gathers the rules and then each line in one buffer, and `begun` is the first line and then each question of
+// `client`. A struct for each buffer and its length would take a second buffer there, or the line's state apart from it again.
 #[derive(Clone, Copy, Debug, PartialEq, Eq)]
 pub struct Run {
     // How long is the first line, once it is whole?
@@ -17,7 +19,8 @@ pub struct Run {
     // Are the rules whole, and not refused?
     pub opened: bool,
     pub rules: Rules,
-    pub begun: Begun,
+    // How long is the line that has begun, if it isn't longer than its buffer?
+    pub begun: Option<usize>,
     pub number: u64,
     pub waiting: usize,
     // May there be more input?

@@ -24,15 +24,12 @@ pub(crate) trait Program<W: Write> {
     // The end of the input, where the last line may lack its LF.
     fn finish(&mut self, output: &mut W);
 
-    // A line of this length is whole.
-    fn answer(&mut self, output: &mut W, length: usize) {
-        let said = self.of_line(length);
-        self.answers().say(output, said);
-    }
-
-    // A line is whole, and too long.
-    fn refuse(&mut self, output: &mut W) {
-        let said = self.of_long_line();
+    // A line is whole. It has this length, `None` where it is too long.
+    fn answer(&mut self, output: &mut W, length: Option<usize>) {
+        let said = match length {
+            Some(n) => self.of_line(n),
+            None => self.of_long_line(),
+        };
         self.answers().say(output, said);
     }
 
@@ -41,18 +38,15 @@ pub(crate) trait Program<W: Write> {
         let begun = self.answers().run.begun;
         match take_byte(begun, self.buffer(), b) {
             Taken::Part(begun) => self.answers().run.begun = begun,
-            Taken::Line(n) => self.answer(output, n),
-            Taken::LongLine => self.refuse(output),
+            Taken::Line(length) => self.answer(output, length),
         }
     }
 
     // The last line, where it lacks its LF.
     fn end_lines(&mut self, output: &mut W) {
         let begun = self.answers().run.begun;
-        if begun.long {
-            self.refuse(output);
-        } else if begun.length != 0 {
-            self.answer(output, begun.length);
+        if begun != Some(0) {
+            self.answer(output, begun);
         }
     }
 }

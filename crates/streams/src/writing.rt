@@ -4,7 +4,7 @@ ghost use Rattle.streams.specs.Writing as spec;
 
 use crate::Run;
 use lines::output::put_line;
-use lines::{Begun, Rules, Said};
+use lines::{Rules, Said};
 use std::io::Write;
 use text::front;
 
@@ -21,7 +21,7 @@ pub fn start(header: Option<usize>) -> Run
             length: 0,
             fresh: true,
         },
-        begun: Begun::default(),
+        begun: Some(0),
         number: 0,
         waiting: 0,
         more: true,
@@ -64,7 +64,7 @@ impl Answers {
     pub(crate) fn say<W: Write>(&mut self, output: &mut W, said: Said) {
         let number = self.run.number.wrapping_add(1);
         self.run.number = number;
-        self.run.begun = Begun::default();
+        self.run.begun = Some(0);
         self.put(output, number, said);
     }
 }
