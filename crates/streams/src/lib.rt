@@ -9,9 +9,9 @@ mod writing;
 use lines::Rules;
 
 // What is known between two bytes of the input: the first line, where the program has one, the rules and the line that has begun, the number of
-// the last line that was answered, and how many bytes of output wait in their buffer. A program holds it beside its buffers, whose lengths are
-// here: there is no heap, `decide` gathers the rules and then each line in one buffer, and `begun` is the first line and then each question of
-// `client`. A struct for each buffer and its length would take a second buffer there, or the line's state apart from it again.
+// the last line that was answered, and how many bytes of output wait in their buffer. A program holds it beside its buffers, and how far
+// they are filled stands here, since memory is fixed: `decide` gathers the rules and then each line in one buffer, where a struct for each buffer
+// with its length would take two. `Answers` owns the output's buffer with this.
 #[derive(Clone, Copy, Debug, PartialEq, Eq)]
 pub struct Run {
     // How long is the first line, once it is whole?
