@@ -26,7 +26,7 @@ use Rattle.lines.specs.Said.{says, refused_at, refused_with, malformed}
 use Rattle.lines.specs.Client.{elements_of, array_of, client_in, subscribe_in, publish_in, question_by, question_in, decision_said, reply_said, question_said, asked_by, client_said}
 use Rattle.lines.specs.declared.RulesTaken.TheVariants.{Part as RulesPart, Whole}
 use Rattle.lines.specs.Output.{decimal_up_to, decimal, word_text, line_text, output_line}
-use Rattle.lines.specs.Input.{taken, kept, rules_taken, rules_kept}
+use Rattle.lines.specs.Input.{longer, taken, put, kept, rules_taken, rules_kept}
 use Rattle.lines.proofs.InputLaws.{short, find, found, text_of, rules_begun, rules_in}
 
 -- the number of a line of input, what is said of it, and the line of output
@@ -81,7 +81,7 @@ rules_taken_lem = refl
 
 pub lines_taken : found (text_of (ascii "[1]" ∷ [] ∷ ascii "[\"ended\",1]" ∷ ascii "[\"ended\"]" ∷ [])) (short 0) buffer
     ≡ Some (ascii "[1]") ∷ Some [] ∷ None ∷ Some (ascii "[\"ended\"]") ∷ []
-unfolding find found taken kept text_of
+unfolding find found taken longer kept put text_of
 lines_taken = refl
 
 -- questions of a client with the id `g`, as the first line tells it, with a rule that allows the topic `a` and one that denies `b`

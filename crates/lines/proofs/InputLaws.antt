@@ -13,13 +13,12 @@ use lib.ListN.{length, take, drop, set, length-append, length-set, length-drop, 
 use lib.Seq.{take-suc-set, drop-set-lt, length-take-le, take_at}
 use borrow.Author.Tests.{lt-ltb, le-ltb, leb-true, leb-false, not-true}
 use Rattle.text.proofs.Laws.{and_split}
-use Rattle.lines.specs.declared.Begun.{Begun}
 use Rattle.lines.specs.declared.Taken.{Taken}
-use Rattle.lines.specs.declared.Taken.TheVariants.{Part, Line, LongLine}
+use Rattle.lines.specs.declared.Taken.TheVariants.{Part, Line}
 use Rattle.lines.specs.declared.Rules.{Rules}
 use Rattle.lines.specs.declared.RulesTaken.{RulesTaken}
 use Rattle.lines.specs.declared.RulesTaken.TheVariants.{Part as RulesPart, Whole, TooLong}
-use Rattle.lines.specs.Input.{taken, kept, rules_taken, rules_kept}
+use Rattle.lines.specs.Input.{Begun, longer, taken, put, kept, rules_taken, rules_kept}
 
 -- the bytes of a line: none is an LF
 unfoldable pub unbroken : List ℕ → Bool
@@ -42,34 +41,34 @@ unbroken-append (b ∷ s) t u =
 
 -- so many bytes of a line that fits so far, and of one that doesn't
 abbrev pub short : ℕ → Begun
-short n = record { length = n; long = false }
+short n = Some n
 
-abbrev pub long : ℕ → Begun
-long n = record { length = n; long = true }
+abbrev pub long : Begun
+long = None
 
 module _ (n b : ℕ) (buffer : List ℕ) (e : eqb b 10 ≡ false) where
   room_taken : n < length buffer → taken (short n) (length buffer) b ≡ Part (short (n + 1))
-  unfolding taken
+  unfolding taken longer
   room_taken h = rw (e, lt-ltb n (length buffer) h)
 
   room_kept : n < length buffer → kept (short n) buffer b ≡ set buffer n b
-  unfolding kept
+  unfolding kept put
   room_kept h = rw (e, lt-ltb n (length buffer) h)
 
-  full_taken : length buffer ≤ n → taken (short n) (length buffer) b ≡ Part (long n)
-  unfolding taken
+  full_taken : length buffer ≤ n → taken (short n) (length buffer) b ≡ Part long
+  unfolding taken longer
   full_taken h = rw (e, le-ltb n (length buffer) h)
 
   full_kept : length buffer ≤ n → kept (short n) buffer b ≡ buffer
-  unfolding kept
+  unfolding kept put
   full_kept h = rw (e, le-ltb n (length buffer) h)
 
-  long-taken : taken (long n) (length buffer) b ≡ Part (long n)
-  unfolding taken
+  long-taken : taken long (length buffer) b ≡ Part long
+  unfolding taken longer
   long-taken = rw e
 
-  long_kept : kept (long n) buffer b ≡ buffer
-  unfolding kept
+  long_kept : kept long buffer b ≡ buffer
+  unfolding kept put
   long_kept = rw e
 
 -- the buffer with a text from a place on
@@ -100,7 +99,7 @@ module _ {R : Type 0} (made : List ℕ → Begun → List ℕ → R)
     -- the first bytes of a line stand in the buffer
     goes_on : (line others buffer : List ℕ) (n : ℕ) → unbroken line ≡ true → n + length line ≤ length buffer
         → made (line ++ others) (short n) buffer ≡ made others (short (n + length line)) (with_text n line buffer)
-    goes_on [] others buffer n u h = let None = sym (add-zero n) in λ i. made others (short (None i)) (with_none n buffer i)
+    goes_on [] others buffer n u h = let place = sym (add-zero n) in λ i. made others (short (place i)) (with_none n buffer i)
     goes_on (b ∷ line) others buffer n u h =
         let first = unbroken_first b line u in
         let place : n + 1 + length line ≡ n + suc (length line) = omega arith in
@@ -110,38 +109,38 @@ module _ {R : Type 0} (made : List ℕ → Begun → List ℕ → R)
         (λ i. made others (short (place i)) (with_more n b line buffer (omega arith) i))))
 
     -- a line that is too long stays so
-    stays-long : (line others buffer : List ℕ) (n : ℕ) → unbroken line ≡ true → made (line ++ others) (long n) buffer ≡ made others (long n) buffer
+    stays-long : (line others buffer : List ℕ) (n : ℕ) → unbroken line ≡ true → made (line ++ others) long buffer ≡ made others long buffer
     stays-long [] others buffer n u = refl
     stays-long (b ∷ line) others buffer n u =
         let first = unbroken_first b line u in
-        step b (line ++ others) buffer (long n) (long n) (long-taken n b buffer first.0) ∙
-        (ap (made (line ++ others) (long n)) (long_kept n b buffer first.0) ∙ stays-long line others buffer n first.1)
+        step b (line ++ others) buffer long long (long-taken n b buffer first.0) ∙
+        (ap (made (line ++ others) long) (long_kept n b buffer first.0) ∙ stays-long line others buffer n first.1)
 
     -- a line that fits, from its beginning on; and one that doesn't
     line_fits : (line others buffer : List ℕ) → unbroken line ≡ true → length line ≤ length buffer
         → made (line ++ others) (short 0) buffer ≡ made others (short (length line)) (line ++ drop (length line) buffer)
     line_fits line others buffer u h =
-        let None = zero-add (length line) in
-        goes_on line others buffer 0 u (omega arith) ∙ (λ i. made others (short (None i)) (line ++ drop (None i) buffer))
+        let place = zero-add (length line) in
+        goes_on line others buffer 0 u (omega arith) ∙ (λ i. made others (short (place i)) (line ++ drop (place i) buffer))
 
     over-at : (front rest others buffer : List ℕ) (b : ℕ) → unbroken front ≡ true → unbroken (b ∷ rest) ≡ true → length front ≡ length buffer
-        → made ((front ++ (b ∷ rest)) ++ others) (short 0) buffer ≡ made others (long (length buffer)) front
+        → made ((front ++ (b ∷ rest)) ++ others) (short 0) buffer ≡ made others long front
     over-at front rest others buffer b u v e =
         let next = unbroken_first b rest v in
         let filled : front ++ drop (length front) buffer ≡ front = rw (drop_of_length-le buffer {i = length front} (omega arith)) (append-nil front) in
         ap (λ (s : List ℕ). made s (short 0) buffer) (append_assoc front (b ∷ rest) others) ∙
         (line_fits front (b ∷ (rest ++ others)) buffer u (omega arith) ∙
         ((λ i. made (b ∷ (rest ++ others)) (short (e i)) (filled i)) ∙
-        (step b (rest ++ others) front (short (length buffer)) (long (length buffer)) (full_taken (length buffer) b front next.0 (omega arith)) ∙
-        (ap (made (rest ++ others) (long (length buffer))) (full_kept (length buffer) b front next.0 (omega arith)) ∙
+        (step b (rest ++ others) front (short (length buffer)) long (full_taken (length buffer) b front next.0 (omega arith)) ∙
+        (ap (made (rest ++ others) long) (full_kept (length buffer) b front next.0 (omega arith)) ∙
         stays-long rest others front (length buffer) next.1))))
 
     line_over : (line others buffer : List ℕ) → unbroken line ≡ true → length buffer < length line
-        → made (line ++ others) (short 0) buffer ≡ made others (long (length buffer)) (take (length buffer) line)
+        → made (line ++ others) (short 0) buffer ≡ made others long (take (length buffer) line)
     line_over line others buffer u h = by (drop (length buffer) line) refl
       where
         by : (back : List ℕ) → drop (length buffer) line ≡ back
-            → made (line ++ others) (short 0) buffer ≡ made others (long (length buffer)) (take (length buffer) line)
+            → made (line ++ others) (short 0) buffer ≡ made others long (take (length buffer) line)
         by [] e = absurd (omega (arith, length-drop (length buffer) line, ap length e))
         by (b ∷ rest) e =
             let front = take (length buffer) line in
@@ -157,7 +156,6 @@ unfoldable pub gathered : List ℕ → Taken → List ℕ → Taken × List ℕ
 gathered [] state buffer = (state, buffer)
 gathered (b ∷ bytes) (Part begun) buffer = gathered bytes (taken begun (length buffer) b) (kept begun buffer b)
 gathered (b ∷ bytes) (Line n) buffer = (Line n, buffer)
-gathered (b ∷ bytes) LongLine buffer = (LongLine, buffer)
 
 gathered_step : (b : ℕ) (bytes buffer : List ℕ) (begun next : Begun) → taken begun (length buffer) b ≡ Part next
     → gathered (b ∷ bytes) (Part begun) buffer ≡ gathered bytes (Part next) (kept begun buffer b)
@@ -165,29 +163,25 @@ unfolding gathered
 gathered_step b bytes buffer begun next e = ap (λ (t : Taken). gathered bytes t (kept begun buffer b)) e
 
 -- behind the line's end nothing is taken
-whole_line : (others : List ℕ) (n : ℕ) (buffer : List ℕ) → gathered others (Line n) buffer ≡ (Line n, buffer)
+whole_line : (others : List ℕ) (n : Begun) (buffer : List ℕ) → gathered others (Line n) buffer ≡ (Line n, buffer)
 unfolding gathered
 whole_line [] n buffer = refl
 whole_line (b ∷ others) n buffer = refl
 
-whole_long : (others buffer : List ℕ) → (gathered others LongLine buffer).0 ≡ LongLine
-unfolding gathered
-whole_long [] buffer = refl
-whole_long (b ∷ others) buffer = refl
-
 -- a line of at most so many bytes as the buffer has, and its LF: it is whole, and stands at the front. Behind it may stand whatever does
 pub line-gathered : (line others buffer : List ℕ) → unbroken line ≡ true → length line ≤ length buffer
-    → gathered (line ++ (10 ∷ others)) (Part (short 0)) buffer ≡ (Line (length line), line ++ drop (length line) buffer)
-unfolding gathered taken kept
+    → gathered (line ++ (10 ∷ others)) (Part (short 0)) buffer ≡ (Line (short (length line)), line ++ drop (length line) buffer)
+unfolding gathered taken longer kept put
 line-gathered line others buffer u h =
     line_fits (λ bytes begun. gathered bytes (Part begun)) gathered_step line (10 ∷ others) buffer u h ∙ whole_line others _ _
 
 -- a longer line is known to be so
 pub long_line-gathered : (line others buffer : List ℕ) → unbroken line ≡ true → length buffer < length line
-    → (gathered (line ++ (10 ∷ others)) (Part (short 0)) buffer).0 ≡ LongLine
-unfolding gathered taken kept
+    → (gathered (line ++ (10 ∷ others)) (Part (short 0)) buffer).0 ≡ Line long
+unfolding gathered taken longer kept put
 long_line-gathered line others buffer u h =
-    ap (λ (t : Taken × List ℕ). t.0) (line_over (λ bytes begun. gathered bytes (Part begun)) gathered_step line (10 ∷ others) buffer u h) ∙ whole_long others _
+    ap (λ (t : Taken × List ℕ). t.0)
+    (line_over (λ bytes begun. gathered bytes (Part begun)) gathered_step line (10 ∷ others) buffer u h ∙ whole_line others long _)
 
 -- a last line may lack its LF: what is gathered then is the line so far, or that it is longer than the buffer
 pub last_gathered : (line buffer : List ℕ) → unbroken line ≡ true → length line ≤ length buffer
@@ -198,7 +192,7 @@ last_gathered line buffer u h =
     line_fits (λ bytes begun. gathered bytes (Part begun)) gathered_step line [] buffer u h
 
 pub long_last_gathered : (line buffer : List ℕ) → unbroken line ≡ true → length buffer < length line
-    → gathered line (Part (short 0)) buffer ≡ (Part (long (length buffer)), take (length buffer) line)
+    → gathered line (Part (short 0)) buffer ≡ (Part long, take (length buffer) line)
 unfolding gathered
 long_last_gathered line buffer u h =
     ap (λ (s : List ℕ). gathered s (Part (short 0)) buffer) (sym (append-nil line)) ∙
@@ -209,8 +203,8 @@ long_last_gathered line buffer u h =
 -- a line that is whole is found, as it stands in the buffer, or not where it is longer than that, and the next one begins
 unfoldable pub find : Taken → List ℕ → (Begun → List (Option (List ℕ))) → List (Option (List ℕ))
 find (Part next) buffer others = others next
-find (Line n) buffer others = Some (take n buffer) ∷ others (short 0)
-find LongLine buffer others = None ∷ others (short 0)
+find (Line (Some n)) buffer others = Some (take n buffer) ∷ others (short 0)
+find (Line None) buffer others = None ∷ others (short 0)
 
 -- the lines that are found in an input, byte by byte
 unfoldable pub found : List ℕ → Begun → List ℕ → List (Option (List ℕ))
@@ -240,7 +234,7 @@ roomy room line = cond (leb (length line) room) (Some line) None
 found_line : (line others buffer : List ℕ) (room : ℕ) (rest : List (Option (List ℕ))) → unbroken line ≡ true → length buffer ≡ room
     → ((next : List ℕ) → length next ≡ room → found others (short 0) next ≡ rest)
     → found (line ++ (10 ∷ others)) (short 0) buffer ≡ roomy room line ∷ rest
-unfolding roomy found find taken kept
+unfolding roomy found find taken longer kept put
 found_line line others buffer room rest u q behind = by (leb (length line) room) refl
   where
     by : (b : Bool) → leb (length line) room ≡ b → found (line ++ (10 ∷ others)) (short 0) buffer ≡ cond b (Some line) None ∷ rest
@@ -311,7 +305,7 @@ rules_go_on : (text others buffer : List ℕ) (n : ℕ) (fresh : Bool) → no_em
     ≡ rules_in others (RulesPart (rules_begun (n + length text) (fresh_behind fresh text))) (with_text n text buffer)
 unfolding no_empty fresh_behind
 rules_go_on [] others buffer n fresh u h =
-    let None = sym (add-zero n) in λ i. rules_in others (RulesPart (rules_begun (None i) fresh)) (with_none n buffer i)
+    let place = sym (add-zero n) in λ i. rules_in others (RulesPart (rules_begun (place i) fresh)) (with_none n buffer i)
 rules_go_on (b ∷ text) others buffer n fresh u h =
     let here = and_split (not (eqb b 10 && fresh)) (no_empty (eqb b 10) text) u in
     let place : n + 1 + length text ≡ n + suc (length text) = omega arith in
@@ -324,9 +318,9 @@ rules_fit : (text others buffer : List ℕ) → no_empty true text ≡ true → 
     → rules_in (text ++ others) (RulesPart (rules_begun 0 true)) buffer
     ≡ rules_in others (RulesPart (rules_begun (length text) (fresh_behind true text))) (text ++ drop (length text) buffer)
 rules_fit text others buffer u h =
-    let None = zero-add (length text) in
+    let place = zero-add (length text) in
     rules_go_on text others buffer 0 true u (omega arith) ∙
-    (λ i. rules_in others (RulesPart (rules_begun (None i) (fresh_behind true text))) (text ++ drop (None i) buffer))
+    (λ i. rules_in others (RulesPart (rules_begun (place i) (fresh_behind true text))) (text ++ drop (place i) buffer))
 
 rules_whole : (others : List ℕ) (n : ℕ) (buffer : List ℕ) → rules_in others (Whole n) buffer ≡ (Whole n, buffer)
 unfolding rules_in

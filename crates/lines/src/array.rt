@@ -9,7 +9,8 @@ use json_text::values::is_document;
 use reader::{Fields, first_kind, read_fields};
 use rule::LINE;
 
-// An array of at most 2,048 bytes.
+// An array of at most 2,048 bytes. No `impl Model` gives its elements as its value: `asker_at` and `client_at` promise what stands at its line's
+// places, and what calls them is proved by both ghost fields.
 #[derive(Clone, Copy)]
 pub(crate) struct Array<'a> {
     pub(crate) line: &'a [u8],

@@ -17,7 +17,6 @@ use crate::output::{refused, says};
 use crate::{Asker, Said, Word};
 use questions::ask::{connect, publish, subscribe};
 use questions::{ConnectAnswer, PublishAnswer, SubscribeAnswer};
-use reader::Fields;
 use rule::agreement::Client;
 use rule::{LINE, Refusal};
 use text::front;
@@ -87,19 +86,20 @@ impl Texts {
 
     // Who asks: "earlier, id, name, password, address, protocol". Each text is decoded into its buffer.
     #[tactic(auto, unfolding(crate::specs::Reading::asker_here, crate::specs::Reading::with_id, crate::specs::Reading::with_texts, crate::specs::Reading::with_protocol))]
-    fn asker_at(&mut self, line: &[u8], f: Fields) -> Option<Asker>
-        ensures value { result ≡ spec.asker_here (length self.old.ids) (length self.old.names) (length self.old.passwords) (length self.old.addresses) line.now f }
-        ensures ids_after { self.new.ids ≡ decoded_into self.old.ids (spec.string_from line.now f.third) }
-        ensures names_after { self.new.names ≡ decoded_into self.old.names (spec.string_from line.now f.fourth) }
-        ensures passwords_after { self.new.passwords ≡ decoded_into self.old.passwords (spec.string_from line.now f.fifth) }
-        ensures addresses_after { self.new.addresses ≡ decoded_into self.old.addresses (spec.string_from line.now f.sixth) }
+    fn asker_at(&mut self, array: &Array) -> Option<Asker>
+        ensures value { result ≡ spec.asker_here (length self.old.ids) (length self.old.names) (length self.old.passwords) (length self.old.addresses) array.now.line.now array.now.at }
+        ensures ids_after { self.new.ids ≡ decoded_into self.old.ids (spec.string_from array.now.line.now array.now.at.third) }
+        ensures names_after { self.new.names ≡ decoded_into self.old.names (spec.string_from array.now.line.now array.now.at.fourth) }
+        ensures passwords_after { self.new.passwords ≡ decoded_into self.old.passwords (spec.string_from array.now.line.now array.now.at.fifth) }
+        ensures addresses_after { self.new.addresses ≡ decoded_into self.old.addresses (spec.string_from array.now.line.now array.now.at.sixth) }
     {
-        let id = text_at(line, f.third, &mut self.ids);
-        let name = given_at(line, f.fourth, &mut self.names);
-        let password = given_at(line, f.fifth, &mut self.passwords);
-        let address = given_at(line, f.sixth, &mut self.addresses);
-        let earlier = earlier_at(line, f.second);
-        let protocol = protocol_at(line, f.seventh);
+        let Array { line, at } = *array;
+        let id = text_at(line, at.third, &mut self.ids);
+        let name = given_at(line, at.fourth, &mut self.names);
+        let password = given_at(line, at.fifth, &mut self.passwords);
+        let address = given_at(line, at.sixth, &mut self.addresses);
+        let earlier = earlier_at(line, at.second);
+        let protocol = protocol_at(line, at.seventh);
         Some(Asker {
             earlier: earlier?,
             id: id.ok()?,
@@ -132,7 +132,7 @@ pub(crate) fn ask_connect(store: &[u8], array: &Array) -> Option<Said>
         return None;
     }
     let mut texts = Texts::new();
-    let a = texts.asker_at(array.line, array.at)?;
+    let a = texts.asker_at(array)?;
     if a.protocol.is_none() {
         return None;
     }
@@ -159,7 +159,7 @@ fn ask_topic(store: &[u8], publishing: bool, array: &Array) -> Option<Said>
         return None;
     }
     let mut texts = Texts::new();
-    let a = texts.asker_at(array.line, array.at)?;
+    let a = texts.asker_at(array)?;
     let mut topics = [0; LINE];
     let topic = text_at(array.line, array.at.eighth, &mut topics).ok()?;
     Some(topic_said(

@@ -16,7 +16,6 @@ use crate::{Form, Header, Said, Word};
 use authinfo::ask::{client_publish, client_subscribe};
 use authinfo::client::Client;
 use authinfo::{PublishAnswer, SubscribeAnswer};
-use reader::Fields;
 use rule::listed::{number_at, truth_at};
 use rule::{Fault, LINE, Refusal};
 use text::front;
@@ -29,7 +28,8 @@ fn no_question() -> Said
     refused_at(Refusal::NotJson, 0)
 }
 
-// What is said of a subscribe, and of a publish.
+// What is said of a subscribe. Two functions for the two questions, as in `asking`: their answers are two enums, and a trait would share the arm
+// of a refusal alone.
 #[tactic(auto, unfolding(crate::specs::Client::reply_said, crate::specs::Client::decision_said, crate::specs::Said::refused_with, authinfo::specs::Answers::subscribe_says))]
 fn subscribe_said(answer: Result<SubscribeAnswer, Fault>) -> Said
     ensures { result ≡ client.reply_said (answers.subscribe_says answer) }
@@ -42,6 +42,7 @@ fn subscribe_said(answer: Result<SubscribeAnswer, Fault>) -> Said
     }
 }
 
+// What is said of a publish.
 #[tactic(auto, unfolding(crate::specs::Client::reply_said, crate::specs::Client::decision_said, crate::specs::Said::refused_with, authinfo::specs::Answers::publish_says))]
 fn publish_said(answer: Result<PublishAnswer, Fault>) -> Said
     ensures { result ≡ client.reply_said (answers.publish_says answer) }
@@ -57,15 +58,16 @@ fn publish_said(answer: Result<PublishAnswer, Fault>) -> Said
 
 // The client of a first line, if all that is read of it is right and nothing stands behind it. Its texts are decoded into their buffers.
 #[tactic(auto, unfolding(crate::specs::Reading::header_here, crate::specs::Reading::nothing_at, crate::specs::Reading::with_truth, crate::specs::Reading::with_name))]
-fn client_at(line: &[u8], f: Fields, ids: &mut [u8], names: &mut [u8]) -> Option<Header>
-    ensures value { result ≡ spec.header_here (length ids.old) (length names.old) line.now f }
-    ensures ids_after { ids.new ≡ decoded_into ids.old (spec.string_from line.now f.second) }
-    ensures names_after { names.new ≡ decoded_into names.old (spec.string_from line.now f.third) }
+fn client_at(array: &Array, ids: &mut [u8], names: &mut [u8]) -> Option<Header>
+    ensures value { result ≡ spec.header_here (length ids.old) (length names.old) array.now.line.now array.now.at }
+    ensures ids_after { ids.new ≡ decoded_into ids.old (spec.string_from array.now.line.now array.now.at.second) }
+    ensures names_after { names.new ≡ decoded_into names.old (spec.string_from array.now.line.now array.now.at.third) }
 {
-    let id = text_at(line, f.second, ids);
-    let name = given_at(line, f.third, names);
-    let superuser = truth_at(line, f.first);
-    if f.fourth.is_some() {
+    let Array { line, at } = *array;
+    let id = text_at(line, at.second, ids);
+    let name = given_at(line, at.third, names);
+    let superuser = truth_at(line, at.first);
+    if at.fourth.is_some() {
         return None;
     }
     Some(Header {
@@ -124,7 +126,7 @@ fn said_of(header: &[u8], rules: &[u8], line: &[u8]) -> Option<Said>
     let array = Array::read(line)?;
     let mut ids = [0; LINE];
     let mut names = [0; LINE];
-    let h = client_at(header, first.at, &mut ids, &mut names)?;
+    let h = client_at(&first, &mut ids, &mut names)?;
     let asker = Client::new(h.superuser, front(&ids, h.id), h.name, &names);
     answer_question(&asker, rules, &array)
 }

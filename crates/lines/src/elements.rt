@@ -1,4 +1,6 @@
-// What is at an element of a line: a word, a text, a number, or `null`. Its place is one that `reader` found.
+// What is at an element of a line: a word, a text, a number, or `null`. Its place is one that `reader` found. A line and a place are two parameters
+// here, as in `number_at` and `truth_at` of rule::listed, which are called beside these; a method of `Array` would name it twice, as in
+// `array.text_at(array.at.third, ..)`.
 ghost use Rattle.std.specs.Prelude.{◌≡◌, length};
 ghost use Rattle.json_text.specs.Access.{copied, decoded_into};
 ghost use Rattle.std.specs.Option.{option_copied};

@@ -1,36 +1,26 @@
-// Input in pieces: the bytes of a line, and of the rules, gathered in a buffer.
+// Input in pieces: the bytes of a line, and of the rules, gathered in a buffer. The buffer is lent, and what is known of it goes in and out as a
+// value beside it: `decide` gathers its rules and then each line in one buffer.
 ghost use Rattle.std.specs.Prelude.{◌≡◌, length};
 ghost use Rattle.lines.specs.Input as spec;
 
-use crate::{Begun, Rules, RulesTaken, Taken};
+use crate::{Rules, RulesTaken, Taken};
 
-// One byte more of the line that has begun.
-#[tactic(auto, unfolding(crate::specs::Input::taken, crate::specs::Input::kept))]
-pub fn take_byte(begun: Begun, buffer: &mut [u8], b: u8) -> Taken
+// One byte more of the line that has begun, whose length is `None` where it is longer than the buffer.
+#[tactic(auto, unfolding(crate::specs::Input::taken, crate::specs::Input::longer, crate::specs::Input::kept, crate::specs::Input::put))]
+pub fn take_byte(begun: Option<usize>, buffer: &mut [u8], b: u8) -> Taken
     ensures value { result ≡ spec.taken begun (length buffer.old) b }
     ensures buffer_after { buffer.new ≡ spec.kept begun buffer.old b }
 {
     if b == b'\n' {
-        return if begun.long {
-            Taken::LongLine
-        } else {
-            Taken::Line(begun.length)
-        };
+        return Taken::Line(begun);
     }
-    if begun.long {
-        return Taken::Part(begun);
+    match begun {
+        Some(n) if n < buffer.len() => {
+            buffer[n] = b;
+            Taken::Part(Some(n + 1))
+        }
+        _ => Taken::Part(None),
     }
-    if begun.length < buffer.len() {
-        buffer[begun.length] = b;
-        return Taken::Part(Begun {
-            length: begun.length + 1,
-            long: false,
-        });
-    }
-    Taken::Part(Begun {
-        long: true,
-        ..begun
-    })
 }
 
 // One byte more of the rules, which an empty line ends.

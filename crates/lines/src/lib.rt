@@ -1,5 +1,6 @@
 // What the programs do with one line of input, on slices: `answer` turns an event line of `decide` into its call and says what came of it,
-// `output` writes that as a line, `input` gathers lines from bytes (document 01, Marked examples).
+// `client` answers a question line of `client`, `output` writes what is said as a line, `input` gathers lines from bytes (document 01, Marked
+// examples; docs/DECISIONS.md, Programs).
 #![tactic(auto)]
 
 pub mod answer;
@@ -54,19 +55,11 @@ pub struct Asker {
     pub protocol: Option<u8>,
 }
 
-// A line that has begun: how many of its bytes are in the buffer, and whether it is longer than that.
-#[derive(Clone, Copy, Debug, PartialEq, Eq)]
-pub struct Begun {
-    pub length: usize,
-    pub long: bool,
-}
-
-// One byte later: the line goes on, or it is whole, with its length, or whole and too long.
+// One byte later: the line goes on, or it is whole. A line is given by its length, `None` where it is longer than the buffer.
 #[derive(Clone, Copy, Debug, PartialEq, Eq)]
 pub enum Taken {
-    Part(Begun),
-    Line(usize),
-    LongLine,
+    Part(Option<usize>),
+    Line(Option<usize>),
 }
 
 // Rules that have begun: how many of their bytes are in the buffer, and whether a line begins behind them.

@@ -160,9 +160,5 @@ pub fn put_line(n: u64, said: Said, buffer: &mut [u8], at: usize) -> Option<usiz
 {
     let line = compose(n, said);
     let text = line.text();
-    if text::paste(text, buffer, at) {
-        Some(at + text.len())
-    } else {
-        None
-    }
+    text::paste(text, buffer, at).then(|| at + text.len())
 }

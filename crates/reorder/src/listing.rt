@@ -1,4 +1,4 @@
-// The list of events, and what each does to a store. Nothing is written here: crate::telling does that afterwards.
+// The list of events, what each does to a store, and its text. Nothing is printed here: crate::telling does that afterwards.
 ghost use Rattle.std.specs.Prelude.{◌≡◌};
 ghost use Rattle.store.specs.View.{view};
 ghost use Rattle.events.specs.Event as event;

@@ -1,18 +1,17 @@
 -- What is known before anything is read.
-use Rattle.std.specs.Prelude.{Bool, true, false}
-use Rattle.lines.specs.declared.Begun.{Begun}
+use Rattle.std.specs.Prelude.{ℕ, true, false, Option, Some}
+use Rattle.lines.specs.Input.{Begun}
 use Rattle.streams.specs.declared.Run.{Run}
 
 -- no line has begun
 abbrev pub no_line : Begun
-no_line = record { length = 0; long = false }
+no_line = Some 0
 
--- before the first byte: no rule, no line and no answer yet; a rule line may begin
-abbrev pub started : Bool → Run
-started headed =
+-- before the first byte: no rule, no line and no answer yet; a rule line may begin. The first line's length is `None` where it is to come
+abbrev pub started : Option ℕ → Run
+started header =
     record {
-      headed = headed;
-      header = 0;
+      header = header;
       opened = false;
       rules = record { length = 0; fresh = true };
       begun = no_line;

@@ -1,12 +1,11 @@
 // The program `decide`: rule lines, an empty line, event lines (document 01, Marked examples).
-use crate::Run;
 use crate::reading::{Program, read_all};
 use crate::writing::Answers;
 use lines::answer::answer;
-use lines::input::{take_byte, take_rule_byte};
+use lines::input::take_rule_byte;
 use lines::output::{malformed, refused_at};
-use lines::{RulesTaken, Taken};
-use rule::{Fault, Refusal};
+use lines::{RulesTaken, Said};
+use rule::{Fault, LINE, Refusal};
 use std::io::{Eprint, Read, Write};
 use store::opening::open;
 use text::front;
@@ -22,14 +21,11 @@ const N: u64 = 64;
 
 const STORE: usize = 47888;
 
-// A line, and the rules, have at most 2,048 bytes.
-const BUFFER: usize = 2048;
-
-// The store, the rules or the line that has begun, and the answers.
+// The store, the rules or the line that has begun, and the answers. The rules have at most 2,048 bytes, as a line does.
 #[derive(Drop)]
 struct Deciding {
     store: [u8; STORE],
-    buffer: [u8; BUFFER],
+    buffer: [u8; LINE],
     answers: Answers,
 }
 
@@ -63,24 +59,25 @@ impl Deciding {
             ),
         }
     }
-
-    // One byte of the lines behind them.
-    fn take_in_lines<W: Write>(&mut self, output: &mut W, b: u8) {
-        match take_byte(self.answers.run.begun, &mut self.buffer, b) {
-            Taken::Part(begun) => self.answers.run.begun = begun,
-            Taken::Line(n) => self.answer(output, n),
-            Taken::LongLine => self.answers.say(output, malformed()),
-        }
-    }
-
-    // A line of this length is whole.
-    fn answer<W: Write>(&mut self, output: &mut W, length: usize) {
-        let said = answer(&mut self.store, front(&self.buffer, length));
-        self.answers.say(output, said);
-    }
 }
 
 impl<W: Write> Program<W> for Deciding {
+    fn answers(&mut self) -> &mut Answers {
+        &mut self.answers
+    }
+
+    fn buffer(&mut self) -> &mut [u8] {
+        &mut self.buffer
+    }
+
+    fn of_line(&mut self, length: usize) -> Said {
+        answer(&mut self.store, front(&self.buffer, length))
+    }
+
+    fn of_long_line(&self) -> Said {
+        malformed()
+    }
+
     fn take(&mut self, output: &mut W, b: u8) {
         if !self.answers.run.more {
             return;
@@ -93,40 +90,23 @@ impl<W: Write> Program<W> for Deciding {
     }
 
     fn finish(&mut self, output: &mut W) {
-        let Run {
-            more,
-            opened,
-            rules,
-            begun,
-            ..
-        } = self.answers.run;
-        if !more {
+        if !self.answers.run.more {
             return;
         }
-        if !opened {
-            self.open(output, rules.length);
-        } else if begun.long {
-            self.answers.say(output, malformed());
-        } else if begun.length != 0 {
-            self.answer(output, begun.length);
+        if self.answers.run.opened {
+            self.end_lines(output);
+        } else {
+            self.open(output, self.answers.run.rules.length);
         }
-    }
-
-    fn write(&mut self, output: &mut W) {
-        self.answers.write(output);
-    }
-
-    fn goes_on(&self) -> bool {
-        self.answers.run.more
     }
 }
 
-// Answers every line of the input.
+// Answers every line of the input. No first line is to come: it counts as whole, with no byte.
 pub fn decide<E: Eprint, R: Read, W: Write>(rt: &E, input: &mut R, output: &mut W) {
     let mut deciding = Deciding {
         store: [0; STORE],
-        buffer: [0; BUFFER],
-        answers: Answers::new(true),
+        buffer: [0; LINE],
+        answers: Answers::new(Some(0)),
     };
     read_all(rt, "decide: cannot read", &mut deciding, input, output);
 }

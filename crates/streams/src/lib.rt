@@ -6,19 +6,21 @@ pub mod deciding;
 mod reading;
 mod writing;
 
-use lines::{Begun, Rules};
+use lines::Rules;
 
 // What is known between two bytes of the input: the first line, where the program has one, the rules and the line that has begun, the number of
-// the last line that was answered, and how many bytes of output wait in their buffer. A program holds it beside its buffers.
+// the last line that was answered, and how many bytes of output wait in their buffer. A program holds it beside its buffers, and how far
+// they are filled stands here, since memory is fixed: `decide` gathers the rules and then each line in one buffer, where a struct for each buffer
+// with its length would take two. `Answers` owns the output's buffer with this.
 #[derive(Clone, Copy, Debug, PartialEq, Eq)]
 pub struct Run {
-    // Is the first line whole, and how long is it?
-    pub headed: bool,
-    pub header: usize,
+    // How long is the first line, once it is whole?
+    pub header: Option<usize>,
     // Are the rules whole, and not refused?
     pub opened: bool,
     pub rules: Rules,
-    pub begun: Begun,
+    // How long is the line that has begun, if it isn't longer than its buffer?
+    pub begun: Option<usize>,
     pub number: u64,
     pub waiting: usize,
     // May there be more input?

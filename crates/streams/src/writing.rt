@@ -4,33 +4,24 @@ ghost use Rattle.streams.specs.Writing as spec;
 
 use crate::Run;
 use lines::output::put_line;
-use lines::{Begun, Rules, Said};
+use lines::{Rules, Said};
 use std::io::Write;
 use text::front;
 
-// No line has begun.
-pub fn no_line() -> Begun
-    ensures { result ≡ spec.no_line }
-{
-    Begun {
-        length: 0,
-        long: false,
-    }
-}
+const OUT: usize = 4096;
 
-// Before the first byte; with or without a first line to come.
-pub fn start(headed: bool) -> Run
-    ensures { result ≡ spec.started headed }
+// Before the first byte. The first line's length is `None` where it is to come.
+pub fn start(header: Option<usize>) -> Run
+    ensures { result ≡ spec.started header }
 {
     Run {
-        headed,
-        header: 0,
+        header,
         opened: false,
         rules: Rules {
             length: 0,
             fresh: true,
         },
-        begun: no_line(),
+        begun: Some(0),
         number: 0,
         waiting: 0,
         more: true,
@@ -41,15 +32,15 @@ pub fn start(headed: bool) -> Run
 #[derive(Drop)]
 pub(crate) struct Answers {
     pub(crate) run: Run,
-    out: [u8; 4096],
+    out: [u8; OUT],
 }
 
 impl Answers {
-    // Before the first byte; with or without a first line to come.
-    pub(crate) fn new(headed: bool) -> Self {
+    // Before the first byte, as `start` says.
+    pub(crate) fn new(header: Option<usize>) -> Self {
         Answers {
-            run: start(headed),
-            out: [0; 4096],
+            run: start(header),
+            out: [0; OUT],
         }
     }
 
@@ -71,9 +62,9 @@ impl Answers {
 
     // What is said of the next line.
     pub(crate) fn say<W: Write>(&mut self, output: &mut W, said: Said) {
-        let number = std::num::wrapping_add_u64(self.run.number, 1);
+        let number = self.run.number.wrapping_add(1);
         self.run.number = number;
-        self.run.begun = no_line();
+        self.run.begun = Some(0);
         self.put(output, number, said);
     }
 }

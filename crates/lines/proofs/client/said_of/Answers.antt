@@ -22,7 +22,7 @@ returns-in_err-h c =
     let is = rw of at c.in_ok-first.first.is_array in
     let header = array_line c.args.header.now is in
     bad_header c.args.header.now c.args.rules.now c.args.line.now c.from_residual-in_err-h.ensures header
-    (header_bad c.args.header.now (elements c.args.header.now) header.value zeros (array_roomy c.args.header.now is) c.in_ok-first.first.at (rw of at c.in_ok-first.first.placed) c.client_at.ensures.value c.in_err-h.was)
+    (header_bad c.args.header.now (elements c.args.header.now) header.value zeros (array_roomy c.args.header.now is) c.in_ok-first.first.at (rw of at c.in_ok-first.first.placed) (rw of at c.client_at.ensures.value) c.in_err-h.was)
 
 pub returns : goal.returns
 returns c =
@@ -32,5 +32,5 @@ returns c =
     let of_line = MatchOption-at_some _ (λ (a : Array). a.line ≡ c.args.line) _ c.in_ok-array.was c.read-2.ensures.of_line in
     let line = array_line c.args.line.now (rw of_line at c.in_ok-array.array.is_array) in
     client_asks c.args.header.now c.args.rules.now c.args.line.now header line
-    (header_told c.args.header.now (elements c.args.header.now) header.value zeros (array_roomy c.args.header.now is) c.in_ok-first.first.at (rw of at c.in_ok-first.first.placed) c.client_at.ensures.value c.client_at.ensures.ids_after c.client_at.ensures.names_after c.in_ok-h.was cc)
+    (header_told c.args.header.now (elements c.args.header.now) header.value zeros (array_roomy c.args.header.now is) c.in_ok-first.first.at (rw of at c.in_ok-first.first.placed) (rw of at c.client_at.ensures.value) (rw of at c.client_at.ensures.ids_after) (rw of at c.client_at.ensures.names_after) c.in_ok-h.was cc)
     (rw of_line at c.answer_question.ensures)

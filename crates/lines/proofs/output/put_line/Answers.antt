@@ -7,7 +7,8 @@ use borrow.Author.Tests.{leb-true}
 use Rattle.text.specs.Text.{fits_at}
 use Rattle.lines.proofs.output.put_line.Goals as goal
 
-pub overflow_add-result : goal.overflow_add-result
+pub then-requires : goal.then-requires
 unfolding fits_at
-overflow_add-result c =
-    omega (arith, leb-true (c.args.at + length c.text-text.result.now) (length c.args.buffer.now) (sym c.paste.ensures.value ∙ c.if-paste.true))
+then-requires c =
+    λ fits κs piece vals ranges u at.
+    omega (arith, leb-true (c.args.at + length c.text-text.result.now) (length c.args.buffer.now) (sym c.paste.ensures.value ∙ fits))
