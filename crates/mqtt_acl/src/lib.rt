@@ -103,7 +103,7 @@ pub fn mqtt_acl_rule_refusal(line: &[u8]) -> u8
 }
 
 // A value of a call, where its flag is true. The calls hand these to `Client::new` one by one: `clients` has a `client_of` for its client with one
-// optional text, but one for three texts and a protocol would take eight arguments, which are no fewer lines in each call than these.
+// optional text, but one for three texts and a protocol would take eight arguments, which the layout puts on ten lines in each call, for seven now.
 #[tactic(auto, unfolding(crate::specs::Rules::where_true))]
 fn given<T: Copy>(has: u8, value: T) -> Option<T>
     ensures { result ≡ rules.where_true (rules.flag has) value }
