@@ -3,13 +3,12 @@ use Prim.Native.Nat.{ℕ, zero, suc, ◌+◌, ◌-◌, ◌≤◌, ◌<◌}
 use native.Mathlib.Numerals.{add-one}
 use native.Mathlib.Omega.{arith}
 use mathlib.Core.Path.{◌≡◌, refl, sym, ap, ◌∙◌}
-use mathlib.Core.Bool.{Bool, true, false, cond}
+use mathlib.Core.Bool.{Bool, true, false, ◌&&◌, not, cond}
 use mathlib.Core.List.{List, [], ◌∷◌}
-use lib.Dec.{eqb, ltb}
+use lib.Dec.{eqb, leb, ltb, leb-zero, leb-suc-zero, leb-suc-suc}
 use lib.ListN.{length, get_or, take, drop, length-drop, drop_of_length-le}
-use lib.Seq.{drop-cons, drop-drop}
-use borrow.Author.Tests.{eqb-false, eq-eqb, ne_eqb, ltb-true, ltb-false}
-use Rattle.memchr.specs.Find.{Nowhere, NoneBefore, Passes, is_byte}
+use lib.Seq.{drop-cons, drop-drop, get_or-drop}
+use borrow.Author.Tests.{eqb-false, eq-eqb, ne_eqb, leb-true, ltb-true, ltb-false}
 use Rattle.json_text.specs.Lines.{lf, extend_line, with_byte, lines, first_line, line_at, line_behind, next_line, count_up_to}
 
 -- past the text there is no line
@@ -17,36 +16,58 @@ pub lines_past : (text : List ℕ) (at : ℕ) → length text ≤ at → lines (
 unfolding lines
 lines_past text at h = rw (drop_of_length-le text {i = at} h)
 
--- past the text a line has no bytes
+-- where a line ends, byte by byte
 pub end_past : (text : List ℕ) (at : ℕ) → length text ≤ at → at + length (line_at text at) ≡ at
 unfolding line_at first_line
 end_past text at h = rw (drop_of_length-le text {i = at} h) (omega arith)
 
--- the first LF ends the line, and without one the text does
-first_found : (text : List ℕ) (n : ℕ) → n < length text → get_or text n 0 ≡ lf → ((k : ℕ) → k < n → get_or text k 0 ≡ lf → ⊥) → n ≡ length (first_line text)
+pub end_lf : (text : List ℕ) (at : ℕ) → at < length text → get_or text at 0 ≡ lf → at + length (line_at text at) ≡ at
+unfolding line_at first_line
+end_lf text at h e = rw (drop-cons text at 0 h, eq-eqb (get_or text at 0) lf e) (omega arith)
+
+pub end_onward : (text : List ℕ) (at : ℕ) → at < length text → (get_or text at 0 ≡ lf → ⊥) →
+    at + length (line_at text at) ≡ at + 1 + length (line_at text (at + 1))
+unfolding line_at first_line
+end_onward text at h e = rw (add-one, drop-cons text at 0 h, ne_eqb (get_or text at 0) lf e) (omega arith)
+
+-- a line is longer than `i` bytes if it has as many and the next is no LF
+first_longer : (text : List ℕ) (i : ℕ) → i < length text
+    → (leb i (length (first_line text)) && not (eqb (get_or text i 0) lf)) ≡ leb (suc i) (length (first_line text))
 unfolding first_line
-first_found [] n h e f = absurd (omega arith)
-first_found (b ∷ text) zero h e f = rw (eq-eqb b lf e)
-first_found (b ∷ text) (suc n) h e f = rw (ne_eqb b lf (f 0 (omega arith))) (ap suc (first_found text n (omega arith) e (λ k l. f (suc k) (omega arith))))
+first_longer [] i h = absurd (omega arith)
+first_longer (b ∷ text) zero h = at (eqb b lf)
+  where
+    at : (e : Bool) → (leb 0 (length (cond e [] (b ∷ first_line text))) && not e) ≡ leb 1 (length (cond e [] (b ∷ first_line text)))
+    at true = refl
+    at false = rw (leb-zero (suc (length (first_line text))), leb-suc-suc 0 (length (first_line text))) (sym (leb-zero (length (first_line text))))
+first_longer (b ∷ text) (suc i) h = at (eqb b lf) (first_longer text i (omega arith))
+  where
+    at : (e : Bool) → (leb i (length (first_line text)) && not (eqb (get_or text i 0) lf)) ≡ leb (suc i) (length (first_line text))
+        → (leb (suc i) (length (cond e [] (b ∷ first_line text))) && not (eqb (get_or text i 0) lf))
+        ≡ leb (suc (suc i)) (length (cond e [] (b ∷ first_line text)))
+    at true k = rw (leb-suc-zero i, leb-suc-zero (suc i))
+    at false k = rw (leb-suc-suc i (length (first_line text)), leb-suc-suc (suc i) (length (first_line text))) k
 
-first_none : (text : List ℕ) → ((k : ℕ) → k < length text → get_or text k 0 ≡ lf → ⊥) → length text ≡ length (first_line text)
+pub line_longer : (text : List ℕ) (at i : ℕ) → at + i < length text
+    → (leb i (length (line_at text at)) && not (eqb (get_or text (at + i) 0) lf)) ≡ leb (i + 1) (length (line_at text at))
+unfolding line_at
+line_longer text at i h = rw (add-one, ← get_or-drop) (first_longer (drop at text) i (omega (arith, length-drop at text)))
+
+-- a place of a line is one from which it goes on to the same end
+first_onward : (text : List ℕ) (n : ℕ) → n ≤ length (first_line text) → n + length (first_line (drop n text)) ≡ length (first_line text)
 unfolding first_line
-first_none [] f = refl
-first_none (b ∷ text) f = rw (ne_eqb b lf (f 0 (omega arith))) (ap suc (first_none text (λ k l. f (suc k) (omega arith))))
+first_onward text zero h = omega arith
+first_onward [] (suc n) h = absurd (omega arith)
+first_onward (b ∷ text) (suc n) h = at (eqb b lf) (first_onward text n) h
+  where
+    at : (e : Bool) → (n ≤ length (first_line text) → n + length (first_line (drop n text)) ≡ length (first_line text))
+        → suc n ≤ length (cond e [] (b ∷ first_line text)) → suc n + length (first_line (drop n text)) ≡ length (cond e [] (b ∷ first_line text))
+    at true k h = absurd (omega arith)
+    at false k h = omega (arith, k (omega arith))
 
--- where the line at a place ends, by the first LF from there on
-pub end_found : (text : List ℕ) (at n : ℕ) → NoneBefore (Passes (is_byte lf) (drop at text)) 0 (length (drop at text)) n → get_or (drop at text) n 0 ≡ lf
-    → (at + n ≡ at + length (line_at text at)) × (at + n ≤ length text)
+pub end_later : (text : List ℕ) (at n : ℕ) → leb n (length (line_at text at)) ≡ true → at + n + length (line_at text (at + n)) ≡ at + length (line_at text at)
 unfolding line_at
-end_found text at n h e = (
-  ap (λ (k : ℕ). at + k) (first_found (drop at text) n h.high e (λ k l f. h.before k (omega arith) l (eq-eqb _ lf f))),
-  omega (arith, h.high, length-drop at text),
-)
-
-pub end_none : (text : List ℕ) (at : ℕ) → at ≤ length text → Nowhere (Passes (is_byte lf) (drop at text)) 0 (length (drop at text))
-    → length text ≡ at + length (line_at text at)
-unfolding line_at
-end_none text at h f = omega (arith, first_none (drop at text) (λ k l e. f k (omega arith) l (eq-eqb _ lf e)), length-drop at text)
+end_later text at n h = omega (arith, rw drop-drop at (first_onward (drop at text) n (leb-true n (length (first_line (drop at text))) h)))
 
 -- a line is what stands from its place up to where it ends, within the text
 first_part : (text : List ℕ) → take (length (first_line text)) text ≡ first_line text

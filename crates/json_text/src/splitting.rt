@@ -1,21 +1,72 @@
 // The lines of a text, gone over by a cursor: the offset at which the next line begins (document 01, JSON line).
-ghost use Rattle.std.specs.Prelude.{◌≡◌, ◌+◌, length};
+ghost use Rattle.std.specs.Prelude.{◌≡◌, ◌+◌, ◌≤◌, leb, length};
 ghost use Rattle.std.specs.Iterator.{YieldsFirstBy, item_count};
 ghost use Rattle.json_text.specs.Lines as spec;
 
-use memchr::memchr;
+// So many bytes are passed over at once where none of them is an LF.
+const STRETCH: usize = 32;
+
+// Is none of the `n` bytes from `at` on an LF? No way out of the loop, so that it is done on many bytes at once.
+fn within_line(text: &[u8], at: usize, n: usize) -> bool
+    requires { at + n ≤ length text.now }
+    ensures { result ≡ leb n (length (spec.line_at text.now at)) }
+{
+    let mut within = true;
+    let mut i = 0;
+    while i < n {
+        within = within & (text[at + i] != b'\n');
+        i += 1;
+    }
+    within
+}
+
+// The place behind the `n` bytes from `at` on, where the text has them and none is an LF; else `at`.
+fn past(text: &[u8], at: usize, n: usize) -> usize
+    ensures { result + length (spec.line_at text.now result) ≡ at + length (spec.line_at text.now at) }
+{
+    if text.len() < at {
+        return at;
+    }
+    if text.len() - at < n {
+        return at;
+    }
+    if within_line(text, at, n) {
+        return at + n;
+    }
+    at
+}
+
+// A place of the line that begins at `at`, before its last stretch.
+fn past_stretches(text: &[u8], at: usize) -> usize
+    ensures { result + length (spec.line_at text.now result) ≡ at + length (spec.line_at text.now at) }
+{
+    let mut i = at;
+    while i < text.len() {
+        if text.len() - i < STRETCH {
+            return i;
+        }
+        if !within_line(text, i, STRETCH) {
+            return i;
+        }
+        i += STRETCH;
+    }
+    i
+}
 
 // Where the line that begins at `at` ends: at the next LF or at the end of the text.
 pub fn line_end(text: &[u8], at: usize) -> usize
     ensures { result ≡ at + length (spec.line_at text.now at) }
 {
-    if text.len() < at {
-        return at;
+    let long = past_stretches(text, at);
+    let half = past(text, long, STRETCH / 2);
+    let mut i = past(text, half, STRETCH / 4);
+    while i < text.len() {
+        if text[i] == b'\n' {
+            return i;
+        }
+        i += 1;
     }
-    match memchr(b'\n', &text[at..]) {
-        Some(n) => at + n,
-        None => text.len(),
-    }
+    i
 }
 
 // The line that begins at `at`, as a part of the text.

@@ -1,25 +1,22 @@
--- The line ends at the first LF from its place on, and without one at the text's end. Assumes nothing.
+-- The loop's invariant: the line that begins at `i` ends where the line that begins at `at` does. The measure is what is left of
+-- the text. Assumes nothing.
 use native.Mathlib.Omega.{arith}
-use mathlib.Core.Path.{sym}
-use borrow.Author.Rules.{part_to_end}
-use borrow.Author.Tests.{eqb-true}
-use Rattle.json_text.proofs.LineLaws.{end_past, end_found, end_none}
+use mathlib.Core.Path.{sym, ◌∙◌}
+use Rattle.json_text.proofs.LineLaws.{end_past, end_lf, end_onward}
 use Rattle.json_text.proofs.splitting.line_end.Goals as goal
 
-pub returns-then-text-at : goal.returns-then-text-at
-returns-then-text-at c =
-    sym (end_past c.args.text.now c.args.at (omega arith))
+pub loop-i-init : goal.loop-i-init
+loop-i-init c =
+    c.past-i.ensures ∙ (c.past-half.ensures ∙ c.past_stretches-long.ensures)
 
-pub overflow_add-result : goal.overflow_add-result
-overflow_add-result c =
-    let first = rw part_to_end at c.in-Some.ensures in
-    omega (arith, (end_found c.args.text.now c.args.at c.in-Some.n first.0 (eqb-true _ 10 first.1)).1)
+pub returns-then-text-i-eq10 : goal.returns-then-text-i-eq10
+returns-then-text-i-eq10 c =
+    sym (end_lf c.args.text.now c.loop-i.i (omega arith) c.if-text-i-eq10.true) ∙ c.loop-i.invariant
 
-pub returns-in-Some : goal.returns-in-Some
-returns-in-Some c =
-    let first = rw part_to_end at c.in-Some.ensures in
-    (end_found c.args.text.now c.args.at c.in-Some.n first.0 (eqb-true _ 10 first.1)).0
+pub loop-i-preserved : goal.loop-i-preserved
+loop-i-preserved c =
+    sym (end_onward c.args.text.now c.loop-i.i (omega arith) c.if-text-i-eq10.false) ∙ c.loop-i.invariant
 
-pub returns-in-None : goal.returns-in-None
-returns-in-None c =
-    end_none c.args.text.now c.args.at c.if-text-at.false (rw part_to_end at c.in-None.ensures)
+pub returns : goal.returns
+returns c =
+    sym (end_past c.args.text.now c.loop-i.i c.loop-i-test.false) ∙ c.loop-i.invariant
