@@ -64,3 +64,15 @@ pub fn sequence(line: &[u8], at: usize) -> Option<usize>
     }
     Some(n)
 }
+
+// How many bytes a code point has.
+pub fn utf8_size(c: u32) -> usize
+    ensures { result ≡ length (spec.utf8 c) }
+{
+    match c {
+        0..=0x7f => 1,
+        0x80..=0x7ff => 2,
+        0x800..=0xffff => 3,
+        _ => 4,
+    }
+}
