@@ -202,6 +202,14 @@ counted_more text most n at c h k =
       all = omega (arith, c.all, ap length (lines_here text at h));
     }
 
+pub counted_past : (text : List ℕ) (most n at : ℕ) → Counted text most n at → at < length text → most < n + 1 → n + 1 ≡ count_up_to most text
+unfolding count_up_to
+counted_past text most n at c h k = omega (arith, c.few, c.all, ap length (lines_here text at h))
+
+pub counted_all : (text : List ℕ) (most n at : ℕ) → Counted text most n at → length text ≤ at → n ≡ count_up_to most text
+unfolding count_up_to
+counted_all text most n at c h = omega (arith, c.few, c.all, ap length (lines_past text at h))
+
 -- a text has no more lines than bytes
 pub lines_most : (text : List ℕ) → length (lines text) ≤ length text
 unfolding lines with_byte extend_line
@@ -212,16 +220,3 @@ lines_most (b ∷ text) = by (eqb b lf) (lines text) (lines_most text)
     by true rest h = omega arith
     by false [] h = omega arith
     by false (line ∷ rest) h = omega arith
-
--- what a count that has come to `n` tells, with these lines left
-pub record CountedUpTo (text : List ℕ) (most n : ℕ) (rest : List (List ℕ)) : Type 0 where
-  pub few : n ≤ most
-  pub all : n + length rest ≡ length (lines text)
-
-pub count_over : {text : List ℕ} {most n : ℕ} {rest : List (List ℕ)} → CountedUpTo text most n rest → 0 < length rest → most < n + 1 → n + 1 ≡ count_up_to most text
-unfolding count_up_to
-count_over c h k = omega (arith, c.few, c.all)
-
-pub count_all : {text : List ℕ} {most n : ℕ} {rest : List (List ℕ)} → CountedUpTo text most n rest → rest ≡ [] → n ≡ count_up_to most text
-unfolding count_up_to
-count_all c e = omega (arith, c.few, c.all, ap length e)

@@ -1,27 +1,25 @@
--- The loop's invariant: `n` with the number of lines that are left is the number of lines, and `n` is at most `most`. Assumes nothing.
-use Rattle.std.proofs.Common.{◌≡◌, ap, length, arith}
-use Rattle.json_text.proofs.LineLaws.{lines_most, count_over, count_all}
+-- The loop's invariant: `n` with the number of lines from `at` on is the number of lines, and `n` is at most `most`. The measure is
+-- what is left of the text. Assumes nothing.
+use native.Mathlib.Omega.{arith}
+use Rattle.json_text.proofs.LineLaws.{counted_more, counted_past, counted_all, next_after}
 use Rattle.json_text.proofs.splitting.count_lines.Goals as goal
 
-pub loop-line-init : goal.loop-line-init
-loop-line-init c =
-    let whole : c.into_iter-line-iterator.result.rest.now ≡ c.args.text.now = cc (c.into_iter-line-iterator.ensures.into_iter_gives, c.new-line-items.ensures) in
-    (tt, tt, record { few = omega arith; all = rw whole (omega arith) })
-
-pub overflow_add-n : goal.overflow_add-n
-overflow_add-n c =
-    let k = c.loop-line.invariant.2 in
-    omega (arith, k.all, ap length c.in-Some.ensures.steps, lines_most c.args.text.now)
-
-pub loop-line-preserved : goal.loop-line-preserved
-loop-line-preserved c =
-    let k = c.loop-line.invariant.2 in
-    (tt, tt, record { few = c.if-most-n.false; all = omega (arith, k.all, ap length c.in-Some.ensures.steps) })
+pub loop-at-init : goal.loop-at-init
+loop-at-init c =
+    record { passed = omega arith; place = omega arith; few = omega arith; all = omega arith }
 
 pub returns-then-most-n : goal.returns-then-most-n
 returns-then-most-n c =
-    count_over c.loop-line.invariant.2 (omega (arith, ap length c.in-Some.ensures.steps)) c.if-most-n.true
+    counted_past _ _ _ _ c.loop-at.invariant c.loop-at-test.true c.if-most-n.true
+
+pub loop-at-smaller : goal.loop-at-smaller
+loop-at-smaller c =
+    rw c.next_line-at.ensures (omega (arith, next_after c.args.text.now c.loop-at.at c.loop-at-test.true))
+
+pub loop-at-preserved : goal.loop-at-preserved
+loop-at-preserved c =
+    rw c.next_line-at.ensures (counted_more _ _ _ _ c.loop-at.invariant c.loop-at-test.true c.if-most-n.false)
 
 pub returns : goal.returns
 returns c =
-    count_all c.loop-line.invariant.2 c.in-None.ensures.steps.0
+    counted_all _ _ _ _ c.loop-at.invariant c.loop-at-test.false
