@@ -1,6 +1,6 @@
 -- Laws of `specs/Text.antt`: what equality, search and replace mean, and the step of each loop over plain lists and indices.
 -- Assumes nothing.
-use Prim.Native.Nat.{ℕ, zero, suc, ◌+◌, ◌-◌, ◌*◌, ◌≤◌, ◌<◌}
+use Prim.Native.Nat.{ℕ, zero, suc, ◌+◌, ◌-◌, ◌*◌, ◌≤◌, ◌<◌, min}
 use mathlib.Core.Path.{◌≡◌, refl, sym, ap, ◌∙◌}
 use mathlib.Core.Bool.{Bool, true, false, ◌&&◌, ◌||◌, true≢false, or-true}
 use mathlib.Core.List.{List, [], ◌∷◌, ◌++◌, append_assoc, append-nil}
@@ -8,8 +8,8 @@ use native.Mathlib.Numerals.{sub-one}
 use native.Mathlib.Omega.{arith}
 use borrow.Author.Tests.{eqb-true, eq-eqb, leb-true, leb-false, le-leb, lt-leb}
 use lib.Dec.{eqb, leb}
-use lib.ListN.{length, take, drop, length-append, length-drop}
-use lib.Seq.{drop-drop, take_at, drop_at, take-length}
+use lib.ListN.{length, take, drop, length-append, length-take, length-drop}
+use lib.Seq.{drop-drop, take_at, drop_at, take_all, take-length}
 use borrow.Rule.Slice.PartMut.{put_mid}
 use Rattle.std.proofs.lemmas.Slice.{put_mid-paste}
 use Rattle.std.specs.Prelude.{Option, Some, None, is_some, unwrap_or}
@@ -226,21 +226,22 @@ first_here pattern text None h e some = absurd (omega arith)
 first_here pattern text (Some zero) h e some = ((occurs_true pattern text h.1).0, omega arith, h.1)
 first_here pattern text (Some (suc i)) h e some = absurd (omega arith)
 
+-- the bytes at which no occurrence begins stay
+replace_stays : (pattern new : List ℕ) (n : ℕ) (s : List ℕ) → ((k : ℕ) → k < n → occurs pattern (drop k s) ≡ false)
+    → replace pattern new s ≡ take n s ++ replace pattern new (drop n s)
+replace_stays pattern new zero s f = refl
+replace_stays pattern new (suc n) [] f = refl
+replace_stays pattern new (suc n) (b ∷ s) f =
+    replace_other pattern new b s (f 0 (omega arith)) ∙ ap {B = List ℕ} (λ r. b ∷ r) (replace_stays pattern new n s (λ k q. f (suc k) (omega arith)))
+
 -- the bytes before the first occurrence stay
 pub replace_kept : (pattern new text : List ℕ) (found : Option ℕ) → FirstAt pattern text found
     → replace pattern new text ≡ take (unwrap_or found (length text)) text ++ replace pattern new (drop (unwrap_or found (length text)) text)
-replace_kept pattern new text found h = kept (unwrap_or found (length text)) text (before found h)
+replace_kept pattern new text found h = replace_stays pattern new (unwrap_or found (length text)) text (before found h)
   where
     before : (o : Option ℕ) → FirstAt pattern text o → (k : ℕ) → k < unwrap_or o (length text) → occurs pattern (drop k text) ≡ false
     before None f k q = f k
     before (Some i) f k q = f.2 k q
-
-    kept : (n : ℕ) (s : List ℕ) → ((k : ℕ) → k < n → occurs pattern (drop k s) ≡ false)
-        → replace pattern new s ≡ take n s ++ replace pattern new (drop n s)
-    kept zero s f = refl
-    kept (suc n) [] f = refl
-    kept (suc n) (b ∷ s) f =
-        replace_other pattern new b s (f 0 (omega arith)) ∙ ap {B = List ℕ} (λ r. b ∷ r) (kept n s (λ k q. f (suc k) (omega arith)))
 
 pub replace_nothing : (pattern new text : List ℕ) → length text ≡ 0 → replace pattern new text ≡ []
 unfolding replace_from replace
@@ -292,6 +293,62 @@ replace-length pattern new text = let h = counted pattern new 0 text (omega arit
 pub times_fit : (pattern text : List ℕ) → times pattern text * length pattern ≤ length text
 unfolding times
 times_fit pattern text = let h = counted pattern [] 0 text (omega arith) in omega arith
+
+-- ---- the length by fronts of what is left
+
+-- a front that reaches behind an occurrence has it
+begins_front : (pattern text : List ℕ) (w : ℕ) → length pattern ≤ w → begins pattern (take w text) ≡ begins pattern text
+unfolding begins
+begins_front [] text w h = refl
+begins_front (p ∷ pattern) text zero h = absurd (omega arith)
+begins_front (p ∷ pattern) [] (suc w) h = refl
+begins_front (p ∷ pattern) (b ∷ text) (suc w) h = rw (begins_front pattern text w (omega arith)) refl
+
+occurs_front : (pattern text : List ℕ) (w k : ℕ) → k + length pattern ≤ w → occurs pattern (drop k (take w text)) ≡ occurs pattern (drop k text)
+unfolding occurs
+occurs_front [] text w k h = refl
+occurs_front (p ∷ pattern) text w zero h = begins_front (p ∷ pattern) text w (omega arith)
+occurs_front (p ∷ pattern) text zero (suc k) h = absurd (omega arith)
+occurs_front (p ∷ pattern) [] (suc w) (suc k) h = refl
+occurs_front (p ∷ pattern) (b ∷ text) (suc w) (suc k) h = occurs_front (p ∷ pattern) text w k (omega arith)
+
+-- the first occurrence of a front is that of the text
+pub length_first : (pattern new text : List ℕ) (w i : ℕ) → FirstAt pattern (take w text) (Some i)
+    → (0 < length pattern) × (i + length pattern ≤ w) × (i + length pattern ≤ length text)
+    × (length (replace pattern new text) ≡ i + length new + length (replace pattern new (drop (i + length pattern) text)))
+length_first pattern new text w i h =
+    let front = length-take w text in
+    let inside : (i + length pattern ≤ w) × (i + length pattern ≤ length text) = (omega (arith, h.0), omega (arith, h.0)) in
+    let here = sym (occurs_front pattern text w i inside.0) ∙ h.1 in
+    let stay = replace_stays pattern new i text (λ k q. sym (occurs_front pattern text w k (omega (arith, inside.0))) ∙ h.2 k q) in
+    let past = rw drop-drop at (replace_occurrence pattern new (drop i text) here) in (
+      (occurs_true pattern (drop i text) here).0,
+      inside.0,
+      inside.1,
+      omega (arith, inside.1, length-take i text, simp length-append at (ap length stay), simp length-append at (ap length past)),
+    )
+
+-- a front without one, which reaches behind an occurrence at `room` or is the whole
+module _ (pattern new text : List ℕ) (w room : ℕ) (none : FirstAt pattern (take w text) None) (reach : min (room + length pattern) (length text) ≤ w) where
+  absent : (k : ℕ) → k ≤ room → occurs pattern (drop k text) ≡ false
+  absent k q = at (leb (k + length pattern) w) refl
+    where
+      at : (t : Bool) → leb (k + length pattern) w ≡ t → occurs pattern (drop k text) ≡ false
+      at true e = sym (occurs_front pattern text w k (leb-true (k + length pattern) w e)) ∙ none k
+      at false e =
+          let past = leb-false (k + length pattern) w e in
+          ap (λ (s : List ℕ). occurs pattern (drop k s)) (sym (take_all w text (omega arith))) ∙ none k
+
+  pub length_over : room < length text → room < length (replace pattern new text)
+  length_over h =
+      let stay = replace_stays pattern new (room + 1) text (λ k q. absent k (omega arith)) in
+      omega (arith, length-take (room + 1) text, simp length-append at (ap length stay))
+
+  pub length_within : length text ≤ room → length (replace pattern new text) ≡ length text
+  length_within h =
+      let stay = replace_stays pattern new (length text) text (λ k q. absent k (omega arith)) in
+      let all = replace_nothing pattern new (drop (length text) text) (omega (arith, length-drop (length text) text)) in
+      omega (arith, length-take (length text) text, simp length-append at (ap length stay), ap length all)
 
 -- ---- the answer
 

@@ -46,7 +46,7 @@ pub fn contains(text: &[u8], pattern: &[u8]) -> bool
 }
 
 // The next piece of a replacement, and what is left of the text: `new` for an occurrence, else the bytes before the next. It is called in
-// loops until nothing is left: for an iterator over the pieces their list would have to be defined, and tied to what `replace` promises.
+// a loop until nothing is left: for an iterator over the pieces their list would have to be defined, and tied to what `replace` promises.
 #[tactic(auto, using(crate::proofs::Laws::first_here, crate::proofs::Laws::replace_kept))]
 fn piece<'a>(text: &'a [u8], pattern: &[u8], new: &'a [u8]) -> (&'a [u8], &'a [u8])
     requires { 0 < length text.now }
@@ -60,23 +60,29 @@ fn piece<'a>(text: &'a [u8], pattern: &[u8], new: &'a [u8]) -> (&'a [u8], &'a [u
     text.split_at(kept)
 }
 
-// The length of the text with `new` for each occurrence of the pattern; none, where it is over `room`. Text, pattern and `new` stay three
+// The length of the text with `new` for each occurrence of the pattern; none, where it is over `room`. The search goes no further than an
+// occurrence that has room before it, so that a refusal costs by the room, not by the text. Text, pattern and `new` stay three
 // parameters, as every caller has them and `replace` of the specs takes them.
-#[tactic(auto, using(crate::proofs::Laws::replace_nothing, crate::proofs::Laws::fitted_fits))]
 pub fn replaced_length(text: &[u8], pattern: &[u8], new: &[u8], room: usize) -> Option<usize>
     ensures { result ≡ spec.fitted (spec.replace pattern.now new.now text.now) room }
 {
     let mut n = 0;
     let mut rest = text;
-    while !rest.is_empty() {
-        let (next, after) = piece(rest, pattern, new);
-        if room - n < next.len() {
+    while let Some(kept) = place(
+        front(rest, (room - n).saturating_add(pattern.len())),
+        pattern,
+    ) {
+        n += kept;
+        if room - n < new.len() {
             return None;
         }
-        n += next.len();
-        rest = after;
+        n += new.len();
+        rest = &rest[kept + pattern.len()..];
     }
-    Some(n)
+    if room - n < rest.len() {
+        return None;
+    }
+    Some(n + rest.len())
 }
 
 // Writes the source into the buffer from `at` on, where it fits there; else the buffer is unchanged. Answers whether it fitted.
