@@ -1,28 +1,28 @@
--- What `push`, `remove` and `restore` of the table crate do to a table as laid out, once for all three tables; and a store in which one
--- table's stretch and its number in the header were written. Assumes nothing.
+-- What `push`, `remove_marked` and `restore` of the table crate do to a table as laid out, once for all three tables; and a store in which
+-- one table's stretch and its number in the header were written. Assumes nothing.
 use Prim.Native.Nat.{ℕ, zero, suc, ◌+◌, ◌*◌, ◌-◌, ◌≤◌, ◌<◌}
 use mathlib.Core.Path.{◌≡◌, refl, sym, ap, ◌∙◌}
 use mathlib.Core.Bool.{Bool, true, false, not, cond}
 use mathlib.Core.List.{List, [], ◌∷◌, ◌++◌, map, append_assoc, append-nil, map-append}
-use native.Mathlib.Nat.{mul-le-mul_right, sub-zero}
+use native.Mathlib.Nat.{mul-le-mul_right, mul_comm, mul-sub, sub-zero}
 use native.Mathlib.Omega.{arith}
 use borrow.Author.Tests.{le-leb, lt-leb, ltb-true, ltb-false}
-use lib.Dec.{leb, ltb}
-use lib.ListN.{length, take, drop, replicate, length-append, replicate-append-replicate}
+use lib.Dec.{eqb, leb, ltb}
+use lib.ListN.{length, take, drop, replicate, length-append, length-map, replicate-append-replicate}
 use lib.Seq.{drop-drop, take-append_seam, take-append-le, drop-append-le, take_at}
 use Rattle.text.specs.Text.{same, fits_at, pasted}
 use Rattle.text.proofs.Laws.{both_true, or_split, same_true, same_itself, pasted_fits, pasted_not}
 use Rattle.table.specs.Table.{some_row, keep, add, add_all}
-use Rattle.table.specs.Bytes.{u16, present, push_answer, pushed, join, cleared, restored}
+use Rattle.table.specs.Bytes.{u16, present, push_answer, pushed, unmarked, join, kept, cleared, removed, restored}
 use Rattle.table.specs.declared.Pushed.{Pushed}
 use Rattle.table.specs.declared.Pushed.TheVariants.{Present, Added, Full}
-use Rattle.table.proofs.TableLaws.{Equals, some_on, some_map, some_append, none_at, none_of, some_keep}
+use Rattle.table.proofs.TableLaws.{Equals, some_on, some_map, some_append, none_at, none_of, some_keep, length-keep}
 use Rattle.table.proofs.RowLaws.{join_append}
 use Rattle.table.proofs.ByteLaws.{cleared_fits}
 use Rattle.store.specs.declared.Counts.{Counts}
 use Rattle.store.specs.Store.{FilterRow, EqRow, NoteRow, View}
 use Rattle.store.specs.Layout.{pad, Codec, filter_codec, numbered_codec, eq_codec, note_codec, put_all, area, header, layout, filters_at, eqs_at, notes_at}
-use Rattle.store.proofs.LayoutLaws.{pad-length, pad-take, pad-drop, Reads, filter_reads, eq_reads, put_all-length, area-length, area-rows, Fits, filter_area, eq_area, note_area, long_filter, long_eq, long_note, from_eqs, from_notes}
+use Rattle.store.proofs.LayoutLaws.{pad-length, pad-take, pad-drop, Reads, filter_reads, eq_reads, put_all-length, area-length, area-rows, area_unused, Fits, filter_area, eq_area, note_area, long_filter, long_eq, long_note, from_eqs, from_notes}
 
 -- ---- padding
 
@@ -79,11 +79,61 @@ none_one bad r g = rw g
 
 -- ---- removal
 
+-- a mark of 1 for each row that passes the test: the others stay
+unmarked_rows : {Row : Type 0} (c : Codec Row) (test : Row → Bool) (rs : List Row) (marks : List ℕ)
+    → take (length rs) marks ≡ map (λ r. cond (test r) 1 0) rs → unmarked marks (map c.put rs) ≡ map c.put (keep (λ r. not (test r)) rs)
+unfolding unmarked keep
+unmarked_rows c test [] marks e = refl
+unmarked_rows c test (r ∷ rs) [] e = let z : ◌≡◌ {A = ℕ} 0 1 = cc in absurd (omega arith)
+unmarked_rows c test (r ∷ rs) (m ∷ marks) e =
+    let first : m ≡ cond (test r) 1 0 = cc in
+    let others : take (length rs) marks ≡ map (λ r. cond (test r) 1 0) rs = cc in
+    rw first (at (test r) (unmarked_rows c test rs marks others))
+  where
+    at : (b : Bool) → unmarked marks (map c.put rs) ≡ map c.put (keep (λ t. not (test t)) rs)
+        → cond (eqb (cond b 1 0) 0) (c.put r ∷ unmarked marks (map c.put rs)) (unmarked marks (map c.put rs))
+        ≡ map c.put (cond (not b) (r ∷ keep (λ t. not (test t)) rs) (keep (λ t. not (test t)) rs))
+    at true q = q
+    at false q = ap (λ (l : List (List ℕ)). c.put r ∷ l) q
+
 -- a table without bad rows has none once some are gone
 pub kept_good : {Row : Type 0} (bad test : Row → Bool) (rs : List Row) → some_row bad rs ≡ false → some_row bad (keep (λ r. not (test r)) rs) ≡ false
 kept_good bad test rs good = rw (some_keep bad (λ r. not (test r)) rs) (none_of rs (λ r h. rw h) good)
 
+area_parts : {Row : Type 0} {c : Codec Row} {bad : Row → Bool} → Reads c bad → (room : ℕ) (rs : List Row) → some_row bad rs ≡ false
+    → area c room rs ≡ put_all c rs ++ replicate (room * c.size - length rs * c.size) 0
+unfolding area pad
+area_parts R room rs good = rw (put_all-length R rs good)
+
 module _ {Row : Type 0} {c : Codec Row} {bad : Row → Bool} (R : Reads c bad) (room : ℕ) (rs : List Row) (good : some_row bad rs ≡ false) where
+  module _ (test : Row → Bool) (marks : List ℕ) (e : take (length rs) marks ≡ map (λ r. cond (test r) 1 0) rs) where
+    kept_rows : kept c.size (length rs) marks (area c room rs) ≡ map c.put (keep (λ r. not (test r)) rs)
+    unfolding kept
+    kept_rows = rw (area-rows R room rs good) (unmarked_rows c test rs marks e)
+
+    pub remove_count : length (kept c.size (length rs) marks (area c room rs)) ≡ length (keep (λ r. not (test r)) rs)
+    remove_count = rw kept_rows (length-map (keep (λ r. not (test r)) rs) c.put)
+
+    pub remove_area : length rs ≤ room → removed c.size (length rs) marks (area c room rs) ≡ area c room (keep (λ r. not (test r)) rs)
+    unfolding removed put_all
+    remove_area h =
+        let stay = keep (λ r. not (test r)) rs in
+        let fewer = mul-le-mul_right c.size (length-keep (λ r. not (test r)) rs) in
+        let fits = mul-le-mul_right c.size h in
+        let gone : (length rs - length stay) * c.size ≡ length rs * c.size - length stay * c.size =
+        mul_comm _ c.size ∙ (mul-sub c.size (length rs) (length stay) ∙ simp mul_comm) in
+        let gap : (length rs - length stay) * c.size + (room * c.size - length rs * c.size) ≡ room * c.size - length stay * c.size = omega arith in
+        rw (
+          remove_count,
+          kept_rows,
+          area-rows R room rs good,
+          length-map rs c.put,
+          area_unused R room rs good,
+          replicate-append-replicate {A = ℕ} ((length rs - length stay) * c.size) (room * c.size - length rs * c.size) 0,
+          gap,
+        )
+        (sym (area_parts R room stay (kept_good bad test rs good)))
+
   -- rows behind those of a table
   module _ (more : List Row) (e : some_row bad more ≡ false) (h : length (rs ++ more) ≤ room) where
     all_length : length (put_all c (rs ++ more)) ≡ length (rs ++ more) * c.size

@@ -4,15 +4,16 @@ use mathlib.Core.Path.{◌≡◌, refl, sym, ap, ◌∙◌}
 use mathlib.Core.Bool.{Bool, true, false, ◌&&◌, not, cond}
 use mathlib.Core.List.{List, [], ◌∷◌, ◌++◌, append_assoc, append-nil}
 use native.Mathlib.Nat.{zero-add, add-zero, sub-zero, zero-mul, mul_comm, mul-sub, mul-le-mul_right}
+use native.Mathlib.Numerals.{add-one}
 use native.Mathlib.Omega.{arith}
 use borrow.Author.Tests.{leb-true, le-leb, lt-leb, ltb-true, ltb-false, lt-ltb}
-use lib.Dec.{leb, ltb}
-use lib.ListN.{length, take, drop, length-append, length-drop}
+use lib.Dec.{eqb, leb, ltb}
+use lib.ListN.{length, take, drop, replicate, length-append, length-drop}
 use lib.Seq.{drop-drop, length-take-le, paste, take-paste, drop-paste, length-paste}
 use Rattle.text.specs.Text.{same, fits_at, pasted}
 use Rattle.text.proofs.Laws.{pasted_not, same_itself}
 use Rattle.table.specs.Table.{some_row, keep, distinct}
-use Rattle.table.specs.Bytes.{cleared, rows, present, push_answer, pushed, join, left, closed_up}
+use Rattle.table.specs.Bytes.{cleared, rows, present, push_answer, pushed, is_marked, unmarked, join, kept, removed, left, closed_up}
 use Rattle.table.specs.declared.Pushed.{Pushed}
 use Rattle.table.specs.declared.Pushed.TheVariants.{Present, Added, Full}
 use Rattle.table.proofs.ByteLaws.{cleared_fits, moved_here}
@@ -132,11 +133,66 @@ moved_behind s from to size h k =
     let behind = drop-paste s to (drop from s) size (omega arith) (omega arith) in
     rw (place, ← drop-drop (from - to) (to + size) (paste s to (drop from s) size), behind) (drop-drop (from - to) (to + size) s)
 
--- the state of the loop of `remove` before row `i`, in a table that was `before`: the rows that stay are closed up to before `to`, and
--- from `from` on the table is as it was
-pub record Removing (goes : List ℕ → Bool) (size used : ℕ) (before table : List ℕ) (from to i stay : ℕ) : Type 0 where
+-- what stays of the rows from a place on, if row `i` is the first of them: it goes, or it stays
+abbrev pub Goes : (ℕ → List (List ℕ) → List (List ℕ)) → ℕ → List ℕ → Type 0
+Goes staying i r = (rest : List (List ℕ)) → staying i (r ∷ rest) ≡ staying (i + 1) rest
+
+abbrev pub Stays : (ℕ → List (List ℕ) → List (List ℕ)) → ℕ → List ℕ → Type 0
+Stays staying i r = (rest : List (List ℕ)) → staying i (r ∷ rest) ≡ r ∷ staying (i + 1) rest
+
+-- by a test, at any place
+abbrev pub by_test : (List ℕ → Bool) → ℕ → List (List ℕ) → List (List ℕ)
+by_test goes i rs = keep (λ r. not (goes r)) rs
+
+pub test_goes : (goes : List ℕ → Bool) (i : ℕ) (r : List ℕ) → goes r ≡ true → Goes (by_test goes) i r
+unfolding keep
+test_goes goes i r e rest = rw e
+
+pub test_stays : (goes : List ℕ → Bool) (i : ℕ) (r : List ℕ) → goes r ≡ false → Stays (by_test goes) i r
+unfolding keep
+test_stays goes i r e rest = rw e
+
+pub test_none : (goes : List ℕ → Bool) (i : ℕ) → by_test goes i [] ≡ []
+unfolding keep
+test_none goes i = refl
+
+-- by marks, each at its place
+abbrev pub by_marks : List ℕ → ℕ → List (List ℕ) → List (List ℕ)
+by_marks marks i rs = unmarked (drop i marks) rs
+
+unmarked_all : (rest : List (List ℕ)) → unmarked [] rest ≡ rest
+unfolding unmarked
+unmarked_all [] = refl
+unmarked_all (r ∷ rest) = refl
+
+-- what the mark of a number does to the first of the rows left
+unmarked_step : (marks : List ℕ) (i : ℕ) (r : List ℕ) (rest : List (List ℕ))
+    → unmarked (drop i marks) (r ∷ rest) ≡ cond (is_marked marks i) (unmarked (drop (suc i) marks) rest) (r ∷ unmarked (drop (suc i) marks) rest)
+unfolding unmarked is_marked
+unmarked_step [] zero r rest = rw (unmarked_all rest)
+unmarked_step [] (suc i) r rest = rw (unmarked_all rest)
+unmarked_step (m ∷ marks) zero r rest = at (eqb m 0)
+  where
+    at : (t : Bool) → cond t (r ∷ unmarked marks rest) (unmarked marks rest) ≡ cond (not t) (unmarked marks rest) (r ∷ unmarked marks rest)
+    at true = refl
+    at false = refl
+unmarked_step (m ∷ marks) (suc i) r rest = unmarked_step marks i r rest
+
+pub marks_go : (marks : List ℕ) (i : ℕ) (r : List ℕ) → is_marked marks i ≡ true → Goes (by_marks marks) i r
+marks_go marks i r e rest = rw (add-one i) (unmarked_step marks i r rest ∙ rw e)
+
+pub marks_stay : (marks : List ℕ) (i : ℕ) (r : List ℕ) → is_marked marks i ≡ false → Stays (by_marks marks) i r
+marks_stay marks i r e rest = rw (add-one i) (unmarked_step marks i r rest ∙ rw e)
+
+pub marks_none : (marks : List ℕ) (i : ℕ) → by_marks marks i [] ≡ []
+unfolding unmarked
+marks_none marks i = refl
+
+-- the state of the loop of `remove` and `remove_marked` before row `i`, in a table that was `before`: the rows that stay are closed up
+-- to before `to`, and from `from` on the table is as it was
+pub record Removing (staying : ℕ → List (List ℕ) → List (List ℕ)) (size used : ℕ) (before table : List ℕ) (from to i stay : ℕ) : Type 0 where
   pub front : List (List ℕ)
-  pub whole : front ++ keep (λ r. not (goes r)) (rows size (used - i) (drop from before)) ≡ left goes size used before
+  pub whole : front ++ staying i (rows size (used - i) (drop from before)) ≡ staying 0 (rows size used before)
   pub counted : i + length (rows size (used - i) (drop from before)) ≡ length (rows size used before)
   pub closed : take to table ≡ join front
   pub behind : drop from table ≡ drop from before
@@ -147,9 +203,9 @@ pub record Removing (goes : List ℕ → Bool) (size used : ℕ) (before table :
   pub fewer : stay ≤ i
   pub room : from ≤ length table
 
-pub removing_none : (goes : List ℕ → Bool) (size used : ℕ) (before : List ℕ) → Removing goes size used before before 0 0 0 0
-unfolding left join
-removing_none goes size used before = record {
+pub removing_none : (staying : ℕ → List (List ℕ) → List (List ℕ)) (size used : ℕ) (before : List ℕ) → Removing staying size used before before 0 0 0 0
+unfolding join
+removing_none staying size used before = record {
   front = [];
   whole = rw sub-zero;
   counted = rw (sub-zero, zero-add);
@@ -163,7 +219,8 @@ removing_none goes size used before = record {
   room = omega arith;
 }
 
-module _ {goes : List ℕ → Bool} {size used : ℕ} {before table : List ℕ} {from to i stay : ℕ} (w : Removing goes size used before table from to i stay) where
+module _ {staying : ℕ → List (List ℕ) → List (List ℕ)} {size used : ℕ} {before table : List ℕ} {from to i stay : ℕ}
+    (w : Removing staying size used before table from to i stay) where
   -- what is closed up ends before the rows that are left, and a row before, where one went
   pub removing_earlier : to ≤ from
   removing_earlier = omega (arith, w.passed, w.filled, mul-le-mul_right size w.fewer)
@@ -187,11 +244,10 @@ module _ {goes : List ℕ → Bool} {size used : ℕ} {before table : List ℕ} 
     behind_one = rw (← drop-drop size from table, w.behind) (drop-drop size from before)
 
     -- a row goes
-    pub removing_gone : goes (take size (drop from table)) ≡ true → Removing goes size used before table (from + size) to (i + 1) stay
-    unfolding keep
+    pub removing_gone : Goes staying i (take size (drop from table)) → Removing staying size used before table (from + size) to (i + 1) stay
     removing_gone e = record {
       front = w.front;
-      whole = rw (first, rw w.behind at e) at w.whole;
+      whole = rw (first, (rw w.behind at e) _) at w.whole;
       counted = counted_one;
       closed = w.closed;
       behind = behind_one;
@@ -204,9 +260,8 @@ module _ {goes : List ℕ → Bool} {size used : ℕ} {before table : List ℕ} 
     }
 
     -- a row stays
-    pub removing_moved : goes (take size (drop from table)) ≡ false
-        → Removing goes size used before (take to table ++ (take size (drop from table) ++ drop (to + size) table)) (from + size) (to + size) (i + 1) (stay + 1)
-    unfolding keep
+    pub removing_moved : Stays staying i (take size (drop from table))
+        → Removing staying size used before (take to table ++ (take size (drop from table) ++ drop (to + size) table)) (from + size) (to + size) (i + 1) (stay + 1)
     removing_moved e =
         let left = length-drop from table in
         let row = take size (drop from before) in
@@ -216,7 +271,7 @@ module _ {goes : List ℕ → Bool} {size used : ℕ} {before table : List ℕ} 
         (← append_assoc (take to table) (take size (drop from table)) (drop (to + size) table))
         (record {
           front = w.front ++ (row ∷ []);
-          whole = append_assoc w.front (row ∷ []) _ ∙ rw (first, rw w.behind at e) at w.whole;
+          whole = append_assoc w.front (row ∷ []) _ ∙ rw (first, (rw w.behind at e) _) at w.whole;
           counted = counted_one;
           closed = take-paste table to (drop from table) size (omega arith) (omega arith) ∙ rw (w.closed, w.behind) (sym (join_snoc w.front row));
           behind = moved_behind table from to size earlier k ∙ behind_one;
@@ -229,20 +284,34 @@ module _ {goes : List ℕ → Bool} {size used : ℕ} {before table : List ℕ} 
         })
 
     -- where it is already
-    pub removing_here : from ≤ to → goes (take size (drop from table)) ≡ false → Removing goes size used before table (from + size) (to + size) (i + 1) (stay + 1)
+    pub removing_here : from ≤ to → Stays staying i (take size (drop from table)) → Removing staying size used before table (from + size) (to + size) (i + 1) (stay + 1)
     removing_here l e =
         let same : to ≡ from = omega (arith, removing_earlier) in
         let moved : take to table ++ (take size (drop from table) ++ drop (to + size) table) ≡ table = rw same (moved_here table from size) in
         rw moved at (removing_moved e)
 
   -- no row is left
-  pub removing_end : rows size (used - i) (drop from before) ≡ []
-      → (stay ≡ length (left goes size used before)) × (cleared to from table ≡ closed_up goes size used before)
-  unfolding closed_up keep
-  removing_end e =
-      let all = rw (e, append-nil) at w.whole in
+  removing_end : staying i [] ≡ [] → rows size (used - i) (drop from before) ≡ []
+      → (stay ≡ length (staying 0 (rows size used before)))
+      × (cleared to from table
+      ≡ join (staying 0 (rows size used before))
+      ++ (replicate ((length (rows size used before) - length (staying 0 (rows size used before))) * size) 0 ++ drop (length (rows size used before) * size) before))
+  removing_end n e =
+      let all = rw (e, n, append-nil) at w.whole in
       let total = rw (e, add-zero) at w.counted in
       let gap : (i - stay) * size ≡ from - to = rw (mul_comm (i - stay) size, mul-sub size i stay, mul_comm size i, mul_comm size stay, w.passed, w.filled) in (
         sym w.stayed ∙ ap length all,
         rw (cleared_fits to from table removing_earlier w.room, w.closed, w.behind, ← all, w.stayed, ← total, gap, w.passed),
       )
+
+-- by a test, and by marks
+module _ {size used : ℕ} {before table : List ℕ} {from to i stay : ℕ} (none : rows size (used - i) (drop from before) ≡ []) where
+  pub test_end : (goes : List ℕ → Bool) → Removing (by_test goes) size used before table from to i stay
+      → (stay ≡ length (left goes size used before)) × (cleared to from table ≡ closed_up goes size used before)
+  unfolding left closed_up
+  test_end goes w = removing_end w (test_none goes i) none
+
+  pub marks_end : (marks : List ℕ) → Removing (by_marks marks) size used before table from to i stay
+      → (stay ≡ length (kept size used marks before)) × (cleared to from table ≡ removed size used marks before)
+  unfolding kept removed
+  marks_end marks w = removing_end w (marks_none marks i) none

@@ -42,15 +42,34 @@ push_answer row used s = cond (present row used s) Present (cond (fits_at (used 
 unfoldable pub pushed : List ℕ → ℕ → List ℕ → List ℕ
 pushed row used s = cond (present row used s) s (pasted (used * length row) row s)
 
+-- a row goes if its mark is there and not 0
+unfoldable pub is_marked : List ℕ → ℕ → Bool
+is_marked marks i = not (eqb (get_or marks i 0) 0)
+
+-- the rows that stay
+unfoldable pub unmarked : List ℕ → List (List ℕ) → List (List ℕ)
+unmarked marks [] = []
+unmarked [] (r ∷ rs) = r ∷ rs
+unmarked (m ∷ marks) (r ∷ rs) = cond (eqb m 0) (r ∷ unmarked marks rs) (unmarked marks rs)
+
 unfoldable pub join : List (List ℕ) → List ℕ
 join [] = []
 join (r ∷ rs) = r ++ join rs
+
+-- "removal closes gaps": the rows that stay, then zero bytes for those that went, then the rest as it was
+unfoldable pub kept : ℕ → ℕ → List ℕ → List ℕ → List (List ℕ)
+kept size used marks s = unmarked marks (rows size used s)
+
+unfoldable pub removed : ℕ → ℕ → List ℕ → List ℕ → List ℕ
+removed size used marks s =
+    join (kept size used marks s)
+    ++ (replicate ((length (rows size used s) - length (kept size used marks s)) * size) 0 ++ drop (length (rows size used s) * size) s)
 
 -- the rows that stay where those that pass a test go
 unfoldable pub left : (List ℕ → Bool) → ℕ → ℕ → List ℕ → List (List ℕ)
 left goes size used s = keep (λ r. not (goes r)) (rows size used s)
 
--- "removal closes gaps": the rows that stay, then zero bytes for those that went, then the rest as it was
+-- the gaps that they leave are closed in the same way
 unfoldable pub closed_up : (List ℕ → Bool) → ℕ → ℕ → List ℕ → List ℕ
 closed_up goes size used s =
     join (left goes size used s)

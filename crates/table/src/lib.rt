@@ -184,6 +184,43 @@ pub fn remove<T: RowTest>(table: &mut [u8], size: usize, used: usize, test: &T) 
     stay
 }
 
+// Removes the rows with a mark that is not 0, in the same way. So the places say which rows go: one of two equal rows, too. It has a
+// loop of its own, since one for both would ask each test for the row's place as well.
+pub fn remove_marked(table: &mut [u8], size: usize, used: usize, marks: &[u8]) -> usize
+    ensures value { result ≡ length (spec.kept size used marks.now table.old) }
+    ensures table_after { table.new ≡ spec.removed size used marks.now table.old }
+{
+    let mut from = 0;
+    let mut to = 0;
+    let mut stay = 0;
+    for i in 0..used {
+        if table.len() - from < size {
+            break;
+        }
+        if !is_marked(marks, i) {
+            if to < from {
+                move_row(table, from, to, size);
+            }
+            to += size;
+            stay += 1;
+        }
+        from += size;
+    }
+    clear(table, to, from);
+    stay
+}
+
+// Does the row of this number go?
+#[tactic(auto, unfolding(crate::specs::Bytes::is_marked))]
+fn is_marked(marks: &[u8], i: usize) -> bool
+    ensures { result ≡ spec.is_marked marks.now i }
+{
+    match marks.get(i) {
+        Some(mark) => *mark != 0,
+        None => false,
+    }
+}
+
 // Puts a table back to an earlier number of used rows: the rows behind them are zero again.
 pub fn restore(table: &mut [u8], size: usize, earlier: usize, used: usize)
     ensures { table.new ≡ spec.restored size earlier used table.old }
