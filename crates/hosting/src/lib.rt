@@ -11,7 +11,6 @@ use events::templates::topics;
 use json_text::splitting::Lines;
 use rule::Topic;
 use rule::topic_list::topic_at;
-use std::ops::AddAssign;
 use store::check;
 
 // How many filter and eq templates there are. The default is none.
@@ -21,13 +20,12 @@ pub struct Templates {
     pub eqs: usize,
 }
 
-// Adds each count. Each sum has to fit in a `usize`.
-impl AddAssign for Templates {
-    ghost can_add_assign = { λ sum more. (sum.filters + more.filters < 2 ^ 64) × (sum.eqs + more.eqs < 2 ^ 64) };
-
-    ghost add_assign_gives = { λ sum more after. after ≡ record { filters = sum.filters + more.filters; eqs = sum.eqs + more.eqs } };
-
-    fn add_assign(&mut self, more: Templates) {
+impl Templates {
+    // Adds each count.
+    fn add(&mut self, more: Templates)
+        requires { (self.old.filters + more.filters < 2 ^ 64) × (self.old.eqs + more.eqs < 2 ^ 64) }
+        ensures { self.new ≡ record { filters = self.old.filters + more.filters; eqs = self.old.eqs + more.eqs } }
+    {
         self.filters += more.filters;
         self.eqs += more.eqs;
     }
@@ -76,7 +74,7 @@ fn line_templates(line: &[u8]) -> Templates
 {
     let mut sum = Templates::default();
     for p in topics(line) {
-        sum += counted(topic_at(line, p));
+        sum.add(counted(topic_at(line, p)));
     }
     sum
 }
@@ -88,7 +86,7 @@ pub fn count_templates(rules: &[u8]) -> Templates
 {
     let mut sum = Templates::default();
     for line in Lines::new(rules) {
-        sum += line_templates(line);
+        sum.add(line_templates(line));
     }
     sum
 }

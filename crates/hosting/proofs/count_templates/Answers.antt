@@ -16,7 +16,7 @@ pub loop-line-preserved : goal.loop-line-preserved
 unfolding line_templates
 loop-line-preserved c =
     let here = c.line_templates.ensures in
-    rw c.add_assign.ensures.after (
+    rw c.add.ensures (
       tt,
       tt,
       counted_line false c.args.rules.now _ _ _ c.in-Some.ensures.steps here.in_bounds.0 (ap (λ (t : Templates). t.filters) here.value) c.loop-line.invariant.2,

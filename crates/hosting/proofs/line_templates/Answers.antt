@@ -13,8 +13,8 @@ loop-p-init c =
     let none : c.default-sum.result ≡ record { filters = 0; eqs = 0 } = search rules in
     rw (none, c.into_iter-p-iterator.ensures.into_iter_gives, c.topics-p-items.ensures.of_line) (tt, tt, counted_first false line is, counted_first true line is)
 
-pub add_assign-requires : goal.add_assign-requires
-add_assign-requires c = (
+pub add-requires : goal.add-requires
+add-requires c = (
   omega (arith, ap (λ (t : Templates). t.filters) c.counted.ensures, count_small false c.topic_at.result, c.loop-p.invariant.2.fits),
   omega (arith, ap (λ (t : Templates). t.eqs) c.counted.ensures, count_small true c.topic_at.result, c.loop-p.invariant.3.fits),
 )
@@ -22,7 +22,7 @@ add_assign-requires c = (
 pub loop-p-preserved : goal.loop-p-preserved
 loop-p-preserved c =
     let line = c.args.line.now in
-    rw (c.add_assign.ensures.after, c.counted.ensures) (
+    rw (c.add.ensures, c.counted.ensures) (
       tt,
       tt,
       counted_topic false line _ _ c.in-Some.ensures.steps c.topic_at.ensures c.loop-p.invariant.2,
