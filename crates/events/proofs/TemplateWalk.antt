@@ -1,4 +1,5 @@
--- The templates of a rule text by places: a topic at its place, the walk over a line's topics, and what filling one answers. Assumes nothing.
+-- The templates of a rule text by places: a topic at its place, the walk over a line's topics and over the lines, and what filling one answers.
+-- Assumes nothing.
 use Prim.Native.Nat.{ℕ, zero, suc, ◌+◌, ◌-◌, ◌≤◌, ◌<◌}
 use mathlib.Core.Path.{◌≡◌, refl, sym, ap, subst, ◌∙◌}
 use mathlib.Core.Bool.{Bool, true, false, ◌&&◌, not, cond, or-false}
@@ -10,20 +11,20 @@ use Rattle.text.specs.Maybe.{bind}
 use native.Mathlib.Omega.{arith}
 use borrow.Author.Tests.{le-leb, lt-leb, ltb-true, ltb-false}
 use lib.Dec.{leb, ltb}
-use lib.ListN.{length, take}
+use lib.ListN.{length, take, drop}
 use Rattle.text.proofs.Laws.{written-take}
 use Rattle.json_text.specs.Strings.{string_at}
 use Rattle.json_text.specs.Json.{Elements, no_element, element, depth_limit, line_value, longest, longest_element}
-use Rattle.json_text.specs.Lines.{next_line}
+use Rattle.json_text.specs.Lines.{line_at, next_line}
 use Rattle.json_text.proofs.ValueLaws.{value_next}
 use Rattle.json_text.proofs.AccessLaws.{element_place, ElementsIn, array_is}
-use Rattle.json_text.proofs.LineLaws.{next_after}
+use Rattle.json_text.proofs.LineLaws.{lines_here, lines_past, line_within, next_after}
 use Rattle.table.specs.Table.{some_row}
 use Rattle.rule.specs.Limits.{text_limit, id_limit}
 use Rattle.rule.specs.Rule as spec
 use Rattle.rule.specs.Rule.{Value, Rule, TopicOf, means, topic_means, as_array, is_template, topic_of, topics_in, topics_of}
 use Rattle.rule.specs.Fill.{fill}
-use Rattle.rule.specs.RuleText.{read_rule, rule_on, Filled, filled_topics, listed}
+use Rattle.rule.specs.RuleText.{read_rule, rule_on, rules_of, Filled, filled_topics, listed, filled_rules, filled}
 use Rattle.rule.specs.Places.{value_of, placed_topic, topic_answer, place_of, fourth_of, rule_answer, placed_rule, filling, filled_into, filling_at, filled_at}
 use Rattle.rule.specs.declared.Rule.{Rule as PlacedRule}
 use Rattle.rule.specs.declared.Topic.{Topic}
@@ -216,6 +217,34 @@ module _ (n : ℕ) (id : List ℕ) (name : Option (List ℕ)) (line : List ℕ) 
   walk_out most place h = let none_left : most ≡ 0 = omega arith in rw none_left
 
 -- ---- the walk over the lines
+
+-- the templates of the lines from a place on, counted from n
+unfoldable pub filled_on : ℕ → List ℕ → Option (List ℕ) → List ℕ → ℕ → List Filled
+filled_on n id name text at = filled_rules n id name (rules_of (drop at text))
+
+module _ (n : ℕ) (id : List ℕ) (name : Option (List ℕ)) (text : List ℕ) where
+  pub on_start : filled_on 0 id name text 0 ≡ filled text id name
+  unfolding filled_on filled
+  on_start = refl
+
+  module _ (at : ℕ) where
+    -- the line at the place, and those behind it
+    pub on_rule : at < length text
+        → filled_on n id name text at ≡ filled_topics n id name (listed (rule_on (read_rule (line_at text at)))) ++ filled_on (suc n) id name text (next_line text at)
+    unfolding filled_on filled_rules rules_of
+    on_rule h = ap (λ (ls : List (List ℕ)). filled_rules n id name (map (λ line. rule_on (read_rule line)) ls)) (lines_here text at h)
+
+    -- the line by the places of its topics, with any fuel from the text's length on
+    pub on_line_lem : (most : ℕ) → at < length text → length text ≤ most
+        → filled_on n id name text at ≡ filled_from most n id name (line_at text at) (first_topic (line_at text at)) ++ filled_on (suc n) id name text (next_line text at)
+    on_line_lem most h k =
+        let within = line_within text at (omega arith) in
+        on_rule h ∙ ap (λ (fs : List Filled). fs ++ filled_on (suc n) id name text (next_line text at)) (sym (walk_line n id name (line_at text at) most (omega arith)))
+
+    -- no line is left
+    pub on_past : length text ≤ at → filled_on n id name text at ≡ []
+    unfolding filled_on filled_rules rules_of
+    on_past h = ap (λ (ls : List (List ℕ)). filled_rules n id name (map (λ line. rule_on (read_rule line)) ls)) (lines_past text at h)
 
 -- the next line is nearer to the end
 pub next_less : (text : List ℕ) (at : ℕ) {next : ℕ} → at < length text → next ≡ next_line text at → length text - next < length text - at
