@@ -1,6 +1,6 @@
 -- A run, an event at a time. Assumes nothing.
 use Rattle.std.proofs.Common.{ℕ, ◌+◌, ◌<◌, ◌≤◌, ◌≡◌, List, [], ◌∷◌, ◌++◌, length, get_or, take, drop, set, refl, sym, ap, ◌∙◌, arith, add-one, append_assoc, Option, Result, Ok, Err, is_err}
-use mathlib.Core.List.{append-nil}
+use mathlib.Core.List.{map, append-nil}
 use Rattle.std.proofs.Math.ListN.{get_or-map}
 use Rattle.std.proofs.Math.Seq.{drop-cons, map-set_same, take_all}
 use lib.ListN.{drop_of_length-le}
@@ -10,8 +10,8 @@ use Rattle.store.specs.View.{view}
 use Rattle.events.specs.Event as happens
 use Rattle.acl.specs.Demand3.{run, outcomes}
 use Rattle.reorder.specs.declared.running.Answered.{Answered}
-use Rattle.reorder.specs.Listing.{listed}
-use Rattle.reorder.specs.Running.{events_of, causes, numbers, told, outcomes_of}
+use Rattle.reorder.specs.Listing.{listed, recorded}
+use Rattle.reorder.specs.Running.{events_of, causes, records_of, numbers, told, records, outcomes_of}
 
 -- an event before it is handed to the store: what a place of a list is where the list has none
 abbrev pub unanswered : Answered
@@ -110,3 +110,17 @@ pub outcomes_run :
 outcomes_run answered s n h =
     outcomes_told answered s (h ∙ ap (λ (l : List ℕ). causes (events_of l) s) (sym n))
     ∙ ap (λ (l : List ℕ). outcomes (events_of l) s) n
+
+-- what is recorded of a cause is what `records_of` has
+recorded_causes : (es : List happens.Event) (s : List ℕ) → map recorded (causes es s) ≡ records_of es s
+unfolding causes records_of
+recorded_causes [] s = refl
+recorded_causes (e ∷ es) s = ap (λ (ns : List ℕ). recorded (happens.cause e (view s)) ∷ ns) (recorded_causes es (happens.after e s))
+
+recorded_told : (answered : List Answered) → records answered ≡ map recorded (told answered)
+recorded_told [] = refl
+recorded_told (a ∷ answered) = ap (λ (ns : List ℕ). recorded (happens.says a.answer) ∷ ns) (recorded_told answered)
+
+-- what is recorded of a run is `records_of` its events
+pub records_run : (es : List happens.Event) (answered : List Answered) (s : List ℕ) → told answered ≡ causes es s → records answered ≡ records_of es s
+records_run es answered s h = recorded_told answered ∙ (ap (map recorded) h ∙ recorded_causes es s)

@@ -1,16 +1,28 @@
 -- The events of the list.
-use Rattle.std.specs.Prelude.{ℕ, cond, List, eqb, replicate, None, Some}
+use Rattle.std.specs.Prelude.{ℕ, cond, List, eqb, replicate, Option, None, Some}
 use Rattle.std.specs.Option.{option_copied}
 use Rattle.text.specs.Ascii.{ascii}
 use Rattle.events.specs.Event as happens
 use Rattle.reorder.specs.declared.listing.Event.{Event}
 use Rattle.reorder.specs.declared.listing.Event.TheVariants.{Connected, Disconnected, Ended}
 
+-- the session of an event
+unfoldable pub session : Event → ℕ
+session (Connected s c name) = s
+session (Disconnected s c) = s
+session (Ended s) = s
+
+-- the id of its client, none where it has none
+unfoldable pub client : Event → Option (List ℕ)
+client (Connected s id name) = Some id.now
+client (Disconnected s id) = Some id.now
+client (Ended s) = None
+
 -- the event of document 01 that is meant
 unfoldable pub meant : Event → happens.Event
-meant (Connected session id name) = happens.connected session id.now (option_copied name)
-meant (Disconnected session id) = happens.disconnected session id.now
-meant (Ended session) = happens.ended session
+meant (Connected s id name) = happens.connected s id.now (option_copied name)
+meant (Disconnected s id) = happens.disconnected s id.now
+meant (Ended s) = happens.ended s
 
 -- an id that is a byte longer than document 01 allows
 unfoldable pub long : List ℕ
@@ -34,3 +46,8 @@ listed n =
     (cond (eqb n 13) (happens.disconnected 4 (ascii "g4"))
     (cond (eqb n 14) (happens.disconnected 3 long)
     (happens.ended 4))))))))))))))
+
+-- what is recorded of an event: 0 where it is done, else the number of its cause
+unfoldable pub recorded : Option ℕ → ℕ
+recorded None = 0
+recorded (Some n) = n

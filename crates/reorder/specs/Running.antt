@@ -1,13 +1,14 @@
 -- What two runs of the events have in common, and which orders demand 3 means.
-use Rattle.std.specs.Prelude.{ℕ, ◌+◌, Bool, ◌&&◌, not, List, [], ◌∷◌, map, find, drop, eqb, leb, ltb, is_ok, is_err, Option, Result, Ok}
+use Rattle.std.specs.Prelude.{ℕ, ◌+◌, Bool, ◌&&◌, ◌||◌, not, List, [], ◌∷◌, map, find, drop, eqb, leb, ltb, is_ok, is_err, Option, Result, Ok}
 use Rattle.std.specs.Option.{option_map_or}
 use Rattle.std.specs.Bool.{beq}
 use Rattle.std.specs.List.{list_all, enumerate_from}
 use Rattle.rule.specs.declared.Refusal.{Refusal}
 use Rattle.store.specs.View.{view}
 use Rattle.events.specs.Event as happens
-use Rattle.acl.specs.Demand3.{shares, Outcome}
-use Rattle.reorder.specs.Listing.{listed}
+use Rattle.acl.specs.Demand3.{same_client, shares, Outcome}
+use Rattle.reorder.specs.Listing.{session, client, listed, recorded}
+use Rattle.reorder.specs.declared.listing.Event.{Event}
 use Rattle.reorder.specs.declared.running.Answered.{Answered}
 
 -- the events of an order of numbers
@@ -19,6 +20,11 @@ unfoldable pub causes : List happens.Event → List ℕ → List (Option ℕ)
 causes [] s = []
 causes (e ∷ es) s = happens.cause e (view s) ∷ causes es (happens.after e s)
 
+-- what is recorded of a run
+unfoldable pub records_of : List happens.Event → List ℕ → List ℕ
+records_of [] s = []
+records_of (e ∷ es) s = recorded (happens.cause e (view s)) ∷ records_of es (happens.after e s)
+
 -- the numbers of the events of a run
 abbrev pub numbers : List Answered → List ℕ
 numbers = map (λ (a : Answered). a.number)
@@ -26,6 +32,10 @@ numbers = map (λ (a : Answered). a.number)
 -- the number that each answer of a run says, none where the event is done
 abbrev pub told : List Answered → List (Option ℕ)
 told = map (λ (a : Answered). happens.says a.answer)
+
+-- what is recorded of each answer of a run
+abbrev pub records : List Answered → List ℕ
+records = map (λ (a : Answered). recorded (happens.says a.answer))
 
 -- the events of a run, and whether each was refused
 abbrev pub outcomes_of : List Answered → List Outcome
@@ -38,6 +48,10 @@ answer_to n run = option_map_or (λ (a : Answered). a.answer) (find (λ (a : Ans
 -- of two runs of the same events: is each event done in the one exactly if it is in the other?
 abbrev pub same_refused : List Answered → List Answered → Bool
 same_refused run other = list_all (λ (a : Answered). beq (is_ok a.answer) (is_ok (answer_to a.number other))) run
+
+-- do two events share a client id or a session number?
+unfoldable pub share : Event → Event → Bool
+share d e = eqb (session d) (session e) || same_client (client d) (client e)
 
 -- may the event `later` come behind `n`? Not `n` again, and none that is listed before it and shares a client id or a session number with it
 unfoldable pub may_follow : ℕ → ℕ → Bool

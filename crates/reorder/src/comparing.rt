@@ -24,11 +24,11 @@ impl<'a> Table<'a> {
             .all(|row| present(other.bytes, other.used, row))
     }
 
-    // The bytes behind the used rows.
+    // The bytes behind the used rows; all of them, where the table has no room for so many rows.
     fn rest(&self) -> &'a [u8] {
         self.bytes
             .get(self.used.saturating_mul(self.size)..)
-            .unwrap_or(&[])
+            .unwrap_or(self.bytes)
     }
 }
 

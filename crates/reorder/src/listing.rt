@@ -50,6 +50,7 @@ impl<'a> Event<'a> {
     ghost use Rattle.events.specs.Event as event;
     ghost use Rattle.acl.specs.Demand3 as demand;
     ghost use Rattle.reorder.specs.Listing as spec;
+    ghost use Rattle.reorder.specs.Running as running;
 
     // Hands the event to a store.
     #[tactic(auto, unfolding(crate::specs::Listing::meant))]
@@ -95,9 +96,10 @@ impl<'a> Event<'a> {
     }
 
     // Do the two events share a client id or a session number?
-    #[tactic(auto, unfolding(acl::specs::Demand3::shares, acl::specs::Demand3::same_client), using(text::proofs::Laws::same_pointwise))]
+    #[tactic(auto, unfolding(acl::specs::Demand3::shares, acl::specs::Demand3::same_client), using(text::proofs::Laws::same_pointwise, crate::proofs::Shares::listed_shares))]
     pub fn shares(&self, other: &Event) -> bool
-        ensures { result ≡ demand.shares (spec.meant self.now) (spec.meant other.now) }
+        ensures value { result ≡ demand.shares (spec.meant self.now) (spec.meant other.now) }
+        ensures by_parts { result ≡ running.share self.now other.now }
     {
         self.session() == other.session()
             || match (self.client(), other.client()) {

@@ -39,7 +39,7 @@ fn fits(n: u8, order: &[u8], at: usize) -> bool
 }
 
 // Is it an order of events, none twice, in which those that share a client id or a session number keep their order?
-pub fn keeps(order: &Order) -> bool
+pub fn keeps(order: &[u8]) -> bool
     ensures { result ≡ spec.keeps order.now }
 {
     order
@@ -56,10 +56,11 @@ pub struct Answered {
 }
 
 // Hands the events of this order to the store, each getting it as the one before left it.
-#[tactic(auto, using(crate::proofs::Runs::running_end, crate::proofs::Runs::outcomes_run))]
+#[tactic(auto, using(crate::proofs::Runs::running_end, crate::proofs::Runs::outcomes_run, crate::proofs::Runs::records_run))]
 pub fn run(store: &mut Store, order: &Order) -> [Answered; EVENTS]
     ensures numbers { spec.numbers result ≡ order.now }
     ensures answers { spec.told result ≡ spec.causes (spec.events_of order.now) store.old }
+    ensures records { spec.records result ≡ spec.records_of (spec.events_of order.now) store.old }
     ensures outcomes { spec.outcomes_of result ≡ demand.outcomes (spec.events_of order.now) store.old }
     ensures store_after { store.new ≡ demand.run (spec.events_of order.now) store.old }
 {
