@@ -127,3 +127,8 @@ pub rules_told : {answer : Result ℕ Fault} {k : ℕ} (n : ℕ) (f : Option Fau
 unfolding rules_answer
 rules_told {answer} {k} n None e q = let same : k ≡ n = cc in (refl, same)
 rules_told n (Some f) e q = let z : ◌≡◌ {A = ℕ} 0 1 = cc in absurd (omega arith)
+
+pub rules_faulty_told : {answer : Result ℕ Fault} {fault : Fault} (n : ℕ) (f : Option Fault) → answer ≡ rules_answer n f → answer ≡ Err fault → f ≡ Some fault
+unfolding rules_answer
+rules_faulty_told n None e q = let z : ◌≡◌ {A = ℕ} 0 1 = cc in absurd (omega arith)
+rules_faulty_told {answer} {fault} n (Some f) e q = let same : f ≡ fault = cc in ap Some same

@@ -66,6 +66,20 @@ fit_range c e =
       notes_most = notes.1;
     }
 
+to_one : (most n : ℕ) → 1 ≤ n → n ≤ most → one_to most n ≡ true
+unfolding one_to
+to_one most n h k = rw (le-leb 1 n h, le-leb n most k)
+
+pub range_fit : (c : Counts) → InRange c → counts_fit c ≡ true
+unfolding counts_fit
+range_fit c h =
+    rw (
+      to_one bytes_limit c.bytes h.bytes_some h.bytes_most,
+      to_one rows_limit c.filters h.filters_some h.filters_most,
+      to_one rows_limit c.eqs h.eqs_some h.eqs_most,
+      to_one rows_limit c.notes h.notes_some h.notes_most,
+    )
+
 -- what the answers of `Counts::new` tell
 pub out_told : {answer : Option Counts} (c : Counts) → answer ≡ counts_read c → answer ≡ None → counts_fit c ≡ false
 unfolding counts_read

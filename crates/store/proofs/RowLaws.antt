@@ -15,7 +15,7 @@ use Rattle.table.specs.Table.{some_row, distinct}
 use Rattle.table.specs.Bytes.{u16, zeros, rows}
 use Rattle.rule.specs.Limits.{text_limit, id_limit}
 use Rattle.store.specs.Store.{filter_size, eq_size}
-use Rattle.store.specs.Layout.{Codec, pad, filter_codec, numbered_codec, eq_codec, put_row}
+use Rattle.store.specs.Layout.{Codec, pad, filter_codec, numbered_codec, eq_codec, note_codec, put_row}
 use Rattle.store.specs.Check.{table_fine}
 use Rattle.store.proofs.LayoutLaws.{pad-length}
 
@@ -129,3 +129,8 @@ put_filter rule text owner s h k e p q r t =
     let after-4 = ap (pasted 4 (u16 (length owner))) after-3 ∙ pasted_into numbers (replicate 2 0) behind (u16 (length owner)) 4 refl refl in
     let after-5 = ap (pasted 262 owner) after-4 ∙ pasted-pad front [] owner id_limit 262 (omega (arith, pad-length text_limit text h)) k in
     rw (eq-eqb (length s) filter_size e) (t ∙ (after-5 ∙ ap (λ (b : List ℕ). front ++ b) (append-nil (pad id_limit owner))))
+
+-- an eq row and a note row are written alike
+pub put_note : (n : ℕ) (text s : List ℕ) → put_row eq_codec (record { rule = n; text = text }) s ≡ put_row note_codec (record { session = n; text = text }) s
+unfolding put_row numbered_codec
+put_note n text s = refl

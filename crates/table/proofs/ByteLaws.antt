@@ -4,7 +4,7 @@ use Prim.Native.Nat.{ℕ, zero, suc, ◌+◌, ◌-◌, ◌*◌, ◌/◌, ◌%◌
 use mathlib.Core.Path.{◌≡◌, refl, sym, ap, ◌∙◌}
 use mathlib.Core.Bool.{Bool, true, false, ◌&&◌, and-true, and-false, and_assoc}
 use mathlib.Core.List.{List, [], ◌∷◌, ◌++◌}
-use native.Mathlib.Nat.{mul-zero, le-div_iff_mul-le, div-lt_iff_lt-mul}
+use native.Mathlib.Nat.{mul-zero, div-add-mod', le-div_iff_mul-le, div-lt_iff_lt-mul}
 use native.Mathlib.Omega.{arith}
 use borrow.Author.Tests.{eqb-true, le-leb, lt-leb, leb-true, leb-false}
 use lib.Dec.{eqb, leb}
@@ -156,3 +156,8 @@ cleared_bounded from to most s h = at (leb to (length s)) (leb from to) refl ref
     at false d e f =
         let beyond = leb-false to (length s) e in
         cleared_not (min from most) (min to most) s (omega arith) ∙ sym (cleared_not from to s beyond)
+
+-- what `u16` writes, `number` reads
+pub number-u16 : (n : ℕ) (rest : List ℕ) → number (u16 n ++ rest) ≡ n
+unfolding number u16
+number-u16 n rest = div-add-mod' n 256
