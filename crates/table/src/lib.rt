@@ -147,7 +147,7 @@ fn move_row(table: &mut [u8], from: usize, to: usize, size: usize)
     ensures { table.new ≡ take to table.old ++ (take size (drop from table.old) ++ drop (to + size) table.old) }
 {
     let (front, back) = table.split_at_mut(from);
-    front[to..to + size].copy_from_slice(&back[..size]);
+    text::paste(&back[..size], front, to);
 }
 
 // Which rows go: the test that `remove` takes.

@@ -85,15 +85,27 @@ pub fn replaced_length(text: &[u8], pattern: &[u8], new: &[u8], room: usize) -> 
     Some(n + rest.len())
 }
 
+// Writes the source into the buffer from `at` on. A loop, since for `copy_from_slice` the library for C would need memmove from outside.
+fn put(source: &[u8], buffer: &mut [u8], at: usize)
+    requires { at + length source.now ≤ length buffer.old }
+    ensures { buffer.new ≡ take at buffer.old ++ (source.now ++ drop (at + length source.now) buffer.old) }
+{
+    let mut i = 0;
+    while i < source.len() {
+        buffer[at + i] = source[i];
+        i += 1;
+    }
+}
+
 // Writes the source into the buffer from `at` on, where it fits there; else the buffer is unchanged. Answers whether it fitted.
-#[tactic(auto, using(crate::proofs::Laws::fits, crate::proofs::Laws::fits_not, crate::proofs::Laws::pasted_part, crate::proofs::Laws::pasted_not))]
+#[tactic(auto, using(crate::proofs::Laws::fits, crate::proofs::Laws::fits_not, crate::proofs::Laws::pasted_fits, crate::proofs::Laws::pasted_not))]
 pub fn paste(source: &[u8], buffer: &mut [u8], at: usize) -> bool
     ensures value { result ≡ spec.fits_at at source.now buffer.old }
     ensures buffer_after { buffer.new ≡ spec.pasted at source.now buffer.old }
 {
     let fits = at <= buffer.len() && source.len() <= buffer.len() - at;
     if fits {
-        buffer[at..at + source.len()].copy_from_slice(source);
+        put(source, buffer, at);
     }
     fits
 }
