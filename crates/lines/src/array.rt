@@ -21,10 +21,19 @@ pub(crate) struct Array<'a> {
 
 impl<'a> Array<'a> {
     // Is it a line of JSON of at most 2,048 bytes, and an array?
-    fn is_one(line: &[u8]) -> bool
+    pub(crate) fn is_one(line: &[u8]) -> bool
         ensures { result ≡ spec.is_array_line line.now }
     {
         line.len() <= LINE && is_document(line) && matches!(first_kind(line), Kind::Array)
+    }
+
+    // The line, which is one. Its elements are gone over here, and not before.
+    pub(crate) fn of(line: &'a [u8]) -> Array<'a>
+        requires { spec.is_array_line line.now ≡ true }
+        ensures { result.line ≡ line.entry }
+    {
+        let at = read_fields(line);
+        Array { line, at }
     }
 
     // The line, if it is one.
@@ -35,7 +44,6 @@ impl<'a> Array<'a> {
         if !Self::is_one(line) {
             return None;
         }
-        let at = read_fields(line);
-        Some(Array { line, at })
+        Some(Self::of(line))
     }
 }

@@ -122,13 +122,14 @@ fn answer_question(asker: &Client, rules: &[u8], array: &Array) -> Option<Said>
 fn said_of(header: &[u8], rules: &[u8], line: &[u8]) -> Option<Said>
     ensures { unwrap_or result (said.refused_at 5 0) ≡ client.client_said header.now rules.now line.now }
 {
-    let first = Array::read(header)?;
-    let array = Array::read(line)?;
+    if !Array::is_one(header) || !Array::is_one(line) {
+        return None;
+    }
     let mut ids = [0; LINE];
     let mut names = [0; LINE];
-    let h = client_at(&first, &mut ids, &mut names)?;
+    let h = client_at(&Array::of(header), &mut ids, &mut names)?;
     let asker = Client::new(h.superuser, front(&ids, h.id), h.name, &names);
-    answer_question(&asker, rules, &array)
+    answer_question(&asker, rules, &Array::of(line))
 }
 
 // What is said of the line, behind this first line and these rules.

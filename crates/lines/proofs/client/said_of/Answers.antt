@@ -1,36 +1,34 @@
 -- Both lines are arrays, and the first is a client, or it is refused; else the question is answered. Assumes nothing.
-use Rattle.std.specs.Option.{is_some}
-use Rattle.std.proofs.lemmas.Option.{MatchOption-at_some}
-use mathlib.Core.Path.{◌≡◌, sym, ap, ◌∙◌}
-use Rattle.lines.specs.declared.array.Array.{Array}
-use Rattle.lines.specs.Reading.{elements}
+use Rattle.std.specs.Prelude.{None}
+use mathlib.Core.Path.{◌≡◌, refl, sym, ◌∙◌}
+use mathlib.Core.Bool.{true}
+use Rattle.lines.specs.Reading.{elements, is_array_line}
 use Rattle.lines.proofs.ElementLaws.{zeros}
 use Rattle.lines.proofs.ClientLaws.{array_line, array_roomy, no_header, bad_header, no_line, client_asks, header_told, header_bad}
+use Rattle.lines.proofs.client.said_of.Goals.{then-not-is_one-via-then-not-is_one, then-not-is_one-via-else-not-is_one+then-not-is_one-2}
 use Rattle.lines.proofs.client.said_of.Goals as goal
 
-pub returns-in_err-first : goal.returns-in_err-first
-returns-in_err-first c =
-    no_header c.args.header.now c.args.rules.now c.args.line.now c.from_residual.ensures (sym c.read.ensures.one ∙ ap is_some c.in_err-first.was)
-
-pub returns-in_err-array : goal.returns-in_err-array
-returns-in_err-array c =
-    no_line c.args.header.now c.args.rules.now c.args.line.now c.from_residual-in_err-array.ensures (sym c.read-2.ensures.one ∙ ap is_some c.in_err-array.was)
+pub returns-then-not-is_one : goal.returns-then-not-is_one
+returns-then-not-is_one c =
+    elim c.then-not-is_one.branch [
+      | then-not-is_one-via-then-not-is_one w ↦
+          no_header c.args.header.now c.args.rules.now c.args.line.now {r = None} refl (sym c.is_one.ensures ∙ w.if-not-is_one.true)
+      | then-not-is_one-via-else-not-is_one+then-not-is_one-2 w ↦
+          no_line c.args.header.now c.args.rules.now c.args.line.now {r = None} refl (sym w.is_one-else-not-is_one.ensures ∙ w.if-not-is_one-2.true)
+    ]
 
 pub returns-in_err-h : goal.returns-in_err-h
 returns-in_err-h c =
-    let of = MatchOption-at_some _ (λ (a : Array). a.line ≡ c.args.header) _ c.in_ok-first.was c.read.ensures.of_line in
-    let is = rw of at c.in_ok-first.first.is_array in
+    let is : is_array_line c.args.header.now ≡ true = sym c.is_one.ensures ∙ c.if-not-is_one.false in
     let header = array_line c.args.header.now is in
-    bad_header c.args.header.now c.args.rules.now c.args.line.now c.from_residual-in_err-h.ensures header
-    (header_bad c.args.header.now (elements c.args.header.now) header.value zeros (array_roomy c.args.header.now is) c.in_ok-first.first.at (rw of at c.in_ok-first.first.placed) (rw of at c.client_at.ensures.value) c.in_err-h.was)
+    bad_header c.args.header.now c.args.rules.now c.args.line.now c.from_residual.ensures header
+    (header_bad c.args.header.now (elements c.args.header.now) header.value zeros (array_roomy c.args.header.now is) c.of.result.at (rw c.of.ensures at c.of.result.placed) (rw c.of.ensures at c.client_at.ensures.value) c.in_err-h.was)
 
 pub returns : goal.returns
 returns c =
-    let of = MatchOption-at_some _ (λ (a : Array). a.line ≡ c.args.header) _ c.in_ok-first.was c.read.ensures.of_line in
-    let is = rw of at c.in_ok-first.first.is_array in
+    let is : is_array_line c.args.header.now ≡ true = sym c.is_one.ensures ∙ c.if-not-is_one.false in
     let header = array_line c.args.header.now is in
-    let of_line = MatchOption-at_some _ (λ (a : Array). a.line ≡ c.args.line) _ c.in_ok-array.was c.read-2.ensures.of_line in
-    let line = array_line c.args.line.now (rw of_line at c.in_ok-array.array.is_array) in
+    let line = array_line c.args.line.now (sym c.is_one-else-not-is_one.ensures ∙ c.if-not-is_one-2.false) in
     client_asks c.args.header.now c.args.rules.now c.args.line.now header line
-    (header_told c.args.header.now (elements c.args.header.now) header.value zeros (array_roomy c.args.header.now is) c.in_ok-first.first.at (rw of at c.in_ok-first.first.placed) (rw of at c.client_at.ensures.value) (rw of at c.client_at.ensures.ids_after) (rw of at c.client_at.ensures.names_after) c.in_ok-h.was cc)
-    (rw of_line at c.answer_question.ensures)
+    (header_told c.args.header.now (elements c.args.header.now) header.value zeros (array_roomy c.args.header.now is) c.of.result.at (rw c.of.ensures at c.of.result.placed) (rw c.of.ensures at c.client_at.ensures.value) (rw c.of.ensures at c.client_at.ensures.ids_after) (rw c.of.ensures at c.client_at.ensures.names_after) c.in_ok-h.was cc)
+    (rw c.of-2.ensures at c.answer_question.ensures)
