@@ -1,19 +1,14 @@
--- A quote, a backslash, and the range. Assumes nothing.
+-- The table agrees with the test at each byte. Assumes nothing.
 use native.Mathlib.Omega.{arith}
-use mathlib.Core.Path.{◌≡◌, refl, sym}
-use mathlib.Core.Logic.{◌⊎◌, ⊎_elim, inl, inr}
-use borrow.Author.Rules.{rules}
-use borrow.Author.Tests.{eq-eqb, ne_eqb}
-use Rattle.json_text.proofs.PieceLaws.{plain_by}
+use mathlib.Core.Path.{refl}
+use mathlib.Core.Bool.{false}
+use lib.ListN.{get_or}
+use Rattle.std.proofs.lemmas.Bool.{agree_below_at}
+use Rattle.json_text.specs.Utf8.{between}
+use Rattle.json_text.specs.Strings.{is_plain}
+use Rattle.json_text.specs.declared.strings.TheConstants.{PLAIN}
 use Rattle.json_text.proofs.strings.is_plain.Goals as goal
 
-pub returns-in-34 : goal.returns-in-34
-returns-in-34 c =
-    let b = c.args.b in
-    ⊎_elim (λ e. sym (plain_by b (eq-eqb b 0x22 e) refl refl)) (λ e. sym (plain_by b (ne_eqb b 0x22 (λ q. omega arith)) (eq-eqb b 0x5c e) refl)) c.in-34.is
-
-pub returns-in_default : goal.returns-in_default
-returns-in_default c =
-    let b = c.args.b in
-    let h : (b ≡ 0x22) ⊎ (b ≡ 0x5c) → ⊥ = assumption rules in
-    sym (plain_by b (ne_eqb b 0x22 (λ e. h (inl e))) (ne_eqb b 0x5c (λ e. h (inr e))) (sym c.in_range.ensures))
+pub returns : goal.returns
+unfolding is_plain between
+returns c = agree_below_at (λ b. get_or PLAIN b false) is_plain 256 c.args.b refl (omega arith)
