@@ -8,11 +8,11 @@ use Rattle.std.specs.Prelude.{Option, None, Some, sum_by}
 use Rattle.std.specs.List.{list_all, starts_with}
 use Rattle.text.specs.Maybe.{bind}
 use Rattle.std.proofs.lemmas.List.Sums.{sum_by-cons}
-use borrow.Author.Tests.{eq-eqb}
+use borrow.Author.Tests.{eq-eqb, ne_eqb, eqb-true}
 use lib.Dec.{eqb}
 use lib.ListN.{length, take, length-append, length-map}
 use Rattle.text.specs.Ascii.{ascii}
-use Rattle.text.specs.Text.{same, occurs, replace_from, replace}
+use Rattle.text.specs.Text.{same, begins, occurs, replace_from, replace}
 use Rattle.text.proofs.Laws.{and_split, or_split, isnt, same_itself, begins-take}
 use Rattle.topic.specs.Topic.{Level, plus, hash, levels, is_only, is_plus, is_hash, metadata, ends, takes_level, takes, dollar_rule, levels_match, levels_if, checked_levels, tree_match, valid_filter}
 use Rattle.table.specs.Table.{some_row, keep, add, add_all, change}
@@ -54,6 +54,16 @@ pub starts_dollar : (name : List ℕ) → starts_with eqb name (ascii "$") ≡ m
 unfolding metadata
 starts_dollar [] = refl
 starts_dollar (b ∷ name) = grind arith
+
+-- a text that begins with `$`
+pub begins_dollar : (name : List ℕ) → begins (ascii "$") name ≡ metadata name
+unfolding begins metadata
+begins_dollar [] = refl
+begins_dollar (b ∷ name) = at (eqb 36 b) refl
+  where
+    at : (e : Bool) → eqb 36 b ≡ e → (e && true) ≡ eqb b 36
+    at true q = sym (eq-eqb b 36 (sym (eqb-true 36 b q)))
+    at false q = sym (ne_eqb b 36 (λ is. true≢false (sym (eq-eqb 36 b (sym is)) ∙ q)))
 
 -- ---- what passes a test
 

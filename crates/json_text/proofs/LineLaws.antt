@@ -129,6 +129,14 @@ next_after text at h = is (ltb (at + length (line_at text at)) (length text)) re
     is true e = rw (next_by text at e) (omega arith)
     is false e = rw (next_by text at e) (omega arith)
 
+-- a line ends before the next begins
+pub line_before : (text : List ℕ) (at : ℕ) → at < length text → at + length (line_at text at) ≤ next_line text at
+line_before text at h = let end = line_within text at (omega arith) in by (ltb (at + length (line_at text at)) (length text)) refl
+  where
+    by : (b : Bool) → ltb (at + length (line_at text at)) (length text) ≡ b → at + length (line_at text at) ≤ next_line text at
+    by true q = let is = next_by text at q in omega arith
+    by false q = let is = next_by text at q in omega (arith, ltb-false (at + length (line_at text at)) (length text) q, line_within text at (omega arith))
+
 next_drop : (text : List ℕ) (at : ℕ) → drop (suc (length (line_at text at))) (drop at text) ≡ drop (next_line text at) text
 next_drop text at = is (ltb (at + length (line_at text at)) (length text)) refl
   where

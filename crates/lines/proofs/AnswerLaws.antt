@@ -12,21 +12,22 @@ use lib.Dec.{eqb}
 use lib.ListN.{length}
 use Rattle.text.specs.Ascii.{ascii}
 use Rattle.text.specs.Text.{same}
-use Rattle.json_text.specs.Json.{Json, array, Elements, read_as, is_at, value_at, array_at, line_value}
+use Rattle.json_text.specs.Json.{Json, array, Elements, read_as, skip_blanks, is_at, value_at, array_at, line_value}
 use Rattle.json_text.specs.declared.Read.{Read}
-use Rattle.json_text.specs.Access.{value_here, bracketed, count}
-use Rattle.json_text.proofs.AccessSteps.{opens_here}
+use Rattle.json_text.specs.Access.{value_here, first_item, bracketed, count}
+use Rattle.json_text.proofs.AccessSteps.{opens_here, first_by_lem}
+use Rattle.json_text.proofs.AccessLaws.{line_is}
 use Rattle.rule.specs.Limits.{line_limit}
 use Rattle.rule.specs.Rule.{nth}
 use Rattle.questions.specs.Question.{Question}
 use Rattle.lines.specs.Call.{Call, asks, as_string, is_given, asker_in, having, connect_in, subscribe_in, publish_in, connected_in, disconnected_in, ended_in, call_by, call_in, call_from, call_of}
 use Rattle.lines.specs.Said.{call_done}
-use Rattle.reader.specs.Reader.{fields_here}
+use Rattle.reader.specs.Reader.{offset_of, place_at, first_offset, offset_after, element_after, fields_here}
 use Rattle.lines.specs.Reading.{word_from, form_here}
 use Rattle.reader.specs.declared.Fields.{Fields}
 use Rattle.lines.specs.declared.Form.{Form}
 use Rattle.lines.specs.declared.Form.TheVariants.{Connect, Subscribe, Publish, Connected, Disconnected, Ended}
-use Rattle.lines.proofs.ElementLaws.{element_stands, fields_are, is_text, word_element}
+use Rattle.lines.proofs.ElementLaws.{end_place, element_stands, fields_are, is_text, word_element}
 
 -- ---- the form, by the word
 
@@ -91,6 +92,17 @@ array_opens line at {r} e o = by (array_at (value_at 7 line) line at) (sym (open
     by : (x : Option (Read Elements)) → read_as array x ≡ Some r → (es : Elements) × (r.value ≡ array es)
     by None q = absurd (none-some _ q)
     by (Some x) q = let k : record { value = array x.value; next = x.next } ≡ r = cc in (x.value, sym (ap (λ (r : Read Json). r.value) k))
+
+-- a document that is no array has no form
+pub no_word : (line : List ℕ) {v : Json} → line_value line ≡ Some v → ((es : Elements) → v ≡ array es → ⊥) → form_here line (fields_here line).first ≡ None
+unfolding fields_here element_after offset_after first_offset
+no_word line e h =
+    ap (form_here line) (ap (λ (p : Option ℕ). place_at line (offset_of line p)) (by (is_at line (skip_blanks line 0) 0x5b) refl) ∙ end_place line)
+    ∙ unfold form_here word_from in refl
+  where
+    by : (b : Bool) → is_at line (skip_blanks line 0) 0x5b ≡ b → first_item 0x5b 0x5d line (skip_blanks line 0) ≡ None
+    by true o = let is = array_opens line (skip_blanks line 0) (line_is line e).1 o in absurd (h is.0 is.1)
+    by false o = first_by_lem 0x5b 0x5d line (skip_blanks line 0) o refl
 
 -- ---- the call of a line
 
