@@ -1,7 +1,10 @@
 // The program `client`: a first line, rule lines, an empty line, question lines (docs/DECISIONS.md).
+ghost use Rattle.std.specs.Prelude.{◌≡◌, Some};
+ghost use Rattle.streams.specs.Writing as spec;
+
 use crate::Run;
 use crate::reading::{Program, read_all};
-use crate::writing::Answers;
+use crate::writing::{Answers, no_line};
 use lines::client::client_answer;
 use lines::input::{take_byte, take_rule_byte};
 use lines::output::refused_at;
@@ -25,10 +28,12 @@ struct Asking {
 }
 
 impl Asking {
-    // The first line is whole.
-    fn headed(&mut self, length: usize) {
+    // The first line is whole, and no other has begun.
+    fn headed(&mut self, length: usize)
+        ensures { (self.new.answers.run.header ≡ Some length) × (self.new.answers.run.begun ≡ spec.no_line) }
+    {
         self.answers.run.header = Some(length);
-        self.answers.run.begun = Some(0);
+        self.answers.run.begun = no_line();
     }
 
     // One byte of the first line.

@@ -10,6 +10,13 @@ use text::front;
 
 const OUT: usize = 4096;
 
+// No line has begun.
+pub fn no_line() -> Option<usize>
+    ensures { result ≡ spec.no_line }
+{
+    Some(0)
+}
+
 // Before the first byte. The first line's length is `None` where it is to come.
 pub fn start(header: Option<usize>) -> Run
     ensures { result ≡ spec.started header }
@@ -21,7 +28,7 @@ pub fn start(header: Option<usize>) -> Run
             length: 0,
             fresh: true,
         },
-        begun: Some(0),
+        begun: no_line(),
         number: 0,
         waiting: 0,
         more: true,
@@ -60,11 +67,13 @@ impl Answers {
         self.run.waiting = put_line(number, said, &mut self.out, 0).unwrap_or(0);
     }
 
-    // What is said of the next line.
-    pub(crate) fn say<W: Write>(&mut self, output: &mut W, said: Said) {
+    // What is said of the next line. Behind it no line has begun.
+    pub(crate) fn say<W: Write>(&mut self, output: &mut W, said: Said)
+        ensures { self.new.run.begun ≡ spec.no_line }
+    {
         let number = self.run.number.wrapping_add(1);
         self.run.number = number;
-        self.run.begun = Some(0);
         self.put(output, number, said);
+        self.run.begun = no_line();
     }
 }

@@ -1,6 +1,6 @@
 // The lines of standard input. Bytes come in pieces, and a buffer of 4,096 bytes carries the line that has begun from piece to piece.
 // A longer line is malformed. `main` calls `replay`.
-ghost use Rattle.std.specs.Prelude.{◌≤◌};
+ghost use Rattle.std.specs.Prelude.{◌≤◌, ◌≡◌, false};
 
 use crate::judging::{Judged, judge};
 use crate::tallies::Tallies;
@@ -57,8 +57,10 @@ impl Run {
         }
     }
 
-    // The end of a line.
-    fn end_line(&mut self, rt: &impl Print) {
+    // The end of a line. Behind it no line has begun.
+    fn end_line(&mut self, rt: &impl Print)
+        ensures { (self.new.length ≡ 0) × (self.new.long ≡ false) }
+    {
         let line = &self.buffer[..self.length];
         if self.long {
             write_line(rt, line);
@@ -67,7 +69,7 @@ impl Run {
             report(rt, judged, line);
             self.tallies.count(judged);
         }
-        self.length = 0;
+        self.length = 0; // The next line begins at the buffer's front.
         self.long = false;
     }
 
