@@ -1,5 +1,5 @@
 // The strings of a line, read character by character: nothing is copied but by `decode` (RFC 8259, section 7).
-ghost use Rattle.std.specs.Prelude.{◌≡◌, ◌+◌, ◌≤◌, ◌<◌, ◌-◌, length, take, drop, get_or};
+ghost use Rattle.std.specs.Prelude.{◌≡◌, ◌+◌, ◌≤◌, ◌<◌, ◌-◌, ◌∷◌, [], length, take, drop, get_or};
 ghost use Rattle.text.specs.Text as txt;
 ghost use Rattle.json_text.specs.Utf8 as utf;
 ghost use Rattle.json_text.specs.Strings as spec;
@@ -52,11 +52,19 @@ fn short_escape(e: u8) -> Option<char>
     }
 }
 
+// Does `\u` stand at the front? By a pattern: `text::begins` would be a call for each low surrogate.
+#[tactic(auto, unfolding(text::specs::Text::begins))]
+fn opens_unicode(bytes: &[u8]) -> bool
+    ensures { result ≡ txt.begins (spec.backslash ∷ 0x75 ∷ []) bytes.now }
+{
+    matches!(bytes, [b'\\', b'u', ..])
+}
+
 // The low surrogate that is written at the front, as `\u` and four digits.
 fn low_surrogate(bytes: &[u8]) -> Option<u32>
     ensures { result ≡ spec.low_surrogate bytes.now }
 {
-    if !text::begins(bytes, b"\\u") {
+    if !opens_unicode(bytes) {
         return None;
     }
     let low = hex4(&bytes[2..])?;

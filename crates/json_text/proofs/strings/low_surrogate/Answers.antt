@@ -8,17 +8,17 @@ use Rattle.json_text.proofs.Utf8Laws.{within, outside}
 use Rattle.json_text.proofs.PieceLaws.{low_by, low_shut, begins_two}
 use Rattle.json_text.proofs.strings.low_surrogate.Goals as goal
 
-pub returns-then-not-begins : goal.returns-then-not-begins
-returns-then-not-begins c =
-    sym (low_shut c.args.bytes.now (sym c.begins.ensures ∙ c.if-not-begins.true))
+pub returns-then-not-opens_unicode : goal.returns-then-not-opens_unicode
+returns-then-not-opens_unicode c =
+    sym (low_shut c.args.bytes.now (sym c.opens_unicode.ensures ∙ c.if-not-opens_unicode.true))
 
 pub slice_bounds-hex4-count : goal.slice_bounds-hex4-count
 slice_bounds-hex4-count c =
-    begins_two c.args.bytes.now (sym c.begins.ensures ∙ c.if-not-begins.false)
+    begins_two c.args.bytes.now (sym c.opens_unicode.ensures ∙ c.if-not-opens_unicode.false)
 
 pub slice_bounds-hex4-start : goal.slice_bounds-hex4-start
 slice_bounds-hex4-start c =
-    begins_two c.args.bytes.now (sym c.begins.ensures ∙ c.if-not-begins.false)
+    begins_two c.args.bytes.now (sym c.opens_unicode.ensures ∙ c.if-not-opens_unicode.false)
 
 pub returns-in_err-low : goal.returns-in_err-low
 unfolding bind
@@ -26,7 +26,7 @@ returns-in_err-low c =
     let s = c.args.bytes.now in
     c.from_residual.ensures
     ∙ sym
-    (low_by s (sym c.begins.ensures ∙ c.if-not-begins.false)
+    (low_by s (sym c.opens_unicode.ensures ∙ c.if-not-opens_unicode.false)
     (ap hex4 (sym (part_to_end s 2)) ∙ (sym c.hex4.ensures ∙ c.in_err-low.was)))
 
 pub returns-in-56320-to-57343 : goal.returns-in-56320-to-57343
@@ -34,7 +34,7 @@ unfolding bind
 returns-in-56320-to-57343 c =
     let s = c.args.bytes.now in
     sym
-    (low_by s (sym c.begins.ensures ∙ c.if-not-begins.false)
+    (low_by s (sym c.opens_unicode.ensures ∙ c.if-not-opens_unicode.false)
     (ap hex4 (sym (part_to_end s 2)) ∙ (sym c.hex4.ensures ∙ c.in_ok-low.was))
     ∙ rw (within 0xdc00 0xdfff c.in_ok-low.low (omega arith) (omega arith)))
 
@@ -43,7 +43,7 @@ unfolding bind
 returns-in_default c =
     let s = c.args.bytes.now in
     sym
-    (low_by s (sym c.begins.ensures ∙ c.if-not-begins.false)
+    (low_by s (sym c.opens_unicode.ensures ∙ c.if-not-opens_unicode.false)
     (ap hex4 (sym (part_to_end s 2)) ∙ (sym c.hex4.ensures ∙ c.in_ok-low.was))
     ∙ rw (outside 0xdc00 0xdfff c.in_ok-low.low (λ h k. omega arith)))
 
@@ -52,6 +52,6 @@ unfolding bind
 returns-in_default-2 c =
     let s = c.args.bytes.now in
     sym
-    (low_by s (sym c.begins.ensures ∙ c.if-not-begins.false)
+    (low_by s (sym c.opens_unicode.ensures ∙ c.if-not-opens_unicode.false)
     (ap hex4 (sym (part_to_end s 2)) ∙ (sym c.hex4.ensures ∙ c.in_ok-low.was))
     ∙ rw (outside 0xdc00 0xdfff c.in_ok-low.low (λ h k. omega arith)))
