@@ -66,23 +66,20 @@ fn piece<'a>(text: &'a [u8], pattern: &[u8], new: &'a [u8]) -> (&'a [u8], &'a [u
 pub fn replaced_length(text: &[u8], pattern: &[u8], new: &[u8], room: usize) -> Option<usize>
     ensures { result ≡ spec.fitted (spec.replace pattern.now new.now text.now) room }
 {
-    let mut n = 0;
+    let mut left = room;
     let mut rest = text;
-    while let Some(kept) = place(
-        front(rest, (room - n).saturating_add(pattern.len())),
-        pattern,
-    ) {
-        n += kept;
-        if room - n < new.len() {
+    while let Some(kept) = place(front(rest, left.saturating_add(pattern.len())), pattern) {
+        left -= kept;
+        if left < new.len() {
             return None;
         }
-        n += new.len();
+        left -= new.len();
         rest = &rest[kept + pattern.len()..];
     }
-    if room - n < rest.len() {
+    if left < rest.len() {
         return None;
     }
-    Some(n + rest.len())
+    Some(room - left + rest.len())
 }
 
 // Writes the source into the buffer from `at` on. A loop, since for `copy_from_slice` the library for C would need memmove from outside.
