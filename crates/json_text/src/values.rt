@@ -1,5 +1,7 @@
 // The reader: one pass over a line, a cursor by value, no deeper than the brackets.
 ghost use Rattle.std.specs.Prelude.{◌≡◌, length, max};
+ghost use Rattle.text.specs.Ascii.{ascii};
+ghost use Rattle.text.specs.Text as txt;
 ghost use Rattle.json_text.specs.Utf8 as utf;
 ghost use Rattle.json_text.specs.Json as spec;
 ghost use Rattle.json_text.specs.Access as access;
@@ -77,6 +79,28 @@ pub fn number_at(line: &[u8], at: usize) -> Option<Read<u64>>
     Some(Read { value: v, next: i })
 }
 
+// Does this word stand at the front? By patterns: `text::begins` would be a call for each.
+#[tactic(auto, unfolding(text::specs::Text::begins))]
+fn opens_null(rest: &[u8]) -> bool
+    ensures { result ≡ txt.begins (ascii "null") rest.now }
+{
+    matches!(rest, [b'n', b'u', b'l', b'l', ..])
+}
+
+#[tactic(auto, unfolding(text::specs::Text::begins))]
+fn opens_true(rest: &[u8]) -> bool
+    ensures { result ≡ txt.begins (ascii "true") rest.now }
+{
+    matches!(rest, [b't', b'r', b'u', b'e', ..])
+}
+
+#[tactic(auto, unfolding(text::specs::Text::begins))]
+fn opens_false(rest: &[u8]) -> bool
+    ensures { result ≡ txt.begins (ascii "false") rest.now }
+{
+    matches!(rest, [b'f', b'a', b'l', b's', b'e', ..])
+}
+
 // The word that begins at `at`.
 pub fn literal_at(line: &[u8], at: usize) -> Option<Literal>
     ensures { result ≡ access.literal_of (spec.word_at line.now at) }
@@ -84,13 +108,13 @@ pub fn literal_at(line: &[u8], at: usize) -> Option<Literal>
     if line.len() < at {
         return None;
     }
-    if text::begins(&line[at..], b"null") {
+    if opens_null(&line[at..]) {
         return Some(Literal::Null);
     }
-    if text::begins(&line[at..], b"true") {
+    if opens_true(&line[at..]) {
         return Some(Literal::True);
     }
-    if text::begins(&line[at..], b"false") {
+    if opens_false(&line[at..]) {
         return Some(Literal::False);
     }
     None

@@ -11,22 +11,22 @@ unfolding literal_of
 returns-then-line-at c =
     sym (ap literal_of (word_past c.args.line.now c.args.at (omega arith)))
 
-pub returns-then-begins : goal.returns-then-begins
+pub returns-then-opens_null : goal.returns-then-opens_null
 unfolding literal_of literal_is
-returns-then-begins c =
-    sym (ap literal_of (word_by c.args.line.now c.args.at (sym (rw part_to_end at c.begins.ensures) ∙ c.if-begins.true) refl refl))
+returns-then-opens_null c =
+    sym (ap literal_of (word_by c.args.line.now c.args.at (sym (rw part_to_end at c.opens_null.ensures) ∙ c.if-opens_null.true) refl refl))
 
-pub returns-then-begins-2 : goal.returns-then-begins-2
+pub returns-then-opens_true : goal.returns-then-opens_true
 unfolding literal_of literal_is
-returns-then-begins-2 c =
-    sym (ap literal_of (word_by c.args.line.now c.args.at (sym (rw part_to_end at c.begins.ensures) ∙ c.if-begins.false) (sym (rw part_to_end at c.begins-2.ensures) ∙ c.if-begins-2.true) refl))
+returns-then-opens_true c =
+    sym (ap literal_of (word_by c.args.line.now c.args.at (sym (rw part_to_end at c.opens_null.ensures) ∙ c.if-opens_null.false) (sym (rw part_to_end at c.opens_true.ensures) ∙ c.if-opens_true.true) refl))
 
-pub returns-then-begins-3 : goal.returns-then-begins-3
+pub returns-then-opens_false : goal.returns-then-opens_false
 unfolding literal_of literal_is
-returns-then-begins-3 c =
-    sym (ap literal_of (word_by c.args.line.now c.args.at (sym (rw part_to_end at c.begins.ensures) ∙ c.if-begins.false) (sym (rw part_to_end at c.begins-2.ensures) ∙ c.if-begins-2.false) (sym (rw part_to_end at c.begins-3.ensures) ∙ c.if-begins-3.true)))
+returns-then-opens_false c =
+    sym (ap literal_of (word_by c.args.line.now c.args.at (sym (rw part_to_end at c.opens_null.ensures) ∙ c.if-opens_null.false) (sym (rw part_to_end at c.opens_true.ensures) ∙ c.if-opens_true.false) (sym (rw part_to_end at c.opens_false.ensures) ∙ c.if-opens_false.true)))
 
 pub returns : goal.returns
 unfolding literal_of literal_is
 returns c =
-    sym (ap literal_of (word_by c.args.line.now c.args.at (sym (rw part_to_end at c.begins.ensures) ∙ c.if-begins.false) (sym (rw part_to_end at c.begins-2.ensures) ∙ c.if-begins-2.false) (sym (rw part_to_end at c.begins-3.ensures) ∙ c.if-begins-3.false)))
+    sym (ap literal_of (word_by c.args.line.now c.args.at (sym (rw part_to_end at c.opens_null.ensures) ∙ c.if-opens_null.false) (sym (rw part_to_end at c.opens_true.ensures) ∙ c.if-opens_true.false) (sym (rw part_to_end at c.opens_false.ensures) ∙ c.if-opens_false.false)))
