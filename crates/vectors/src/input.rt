@@ -90,17 +90,22 @@ impl Run {
         self.length += 1;
     }
 
-    // Reads once. Is there more to read? An error ends the input.
-    fn read(&mut self, rt: &impl Print, input: &mut impl Read) -> bool {
+    // Reads once. Is there more to read? An error ends the input, where the line that has begun stays.
+    fn read(&mut self, rt: &impl Print, input: &mut impl Read) -> bool
+        ensures { result ≡ false → self.new.length ≡ self.old.length }
+    {
         let mut piece = [0; 4096];
         let Ok(n) = input.read(&mut piece) else {
             say(rt, b"cannot read\n");
             return false;
         };
+        if n == 0 {
+            return false;
+        }
         for &b in &piece[..n] {
             self.take(rt, b);
         }
-        n > 0
+        true
     }
 
     // The end of the input, where the last line may lack its LF.
