@@ -5,8 +5,8 @@
    match. The code is position independent: it can be linked into a shared object, as a broker's plugin is one.
 
    Memory. All of it is the caller's, but the stack, of which 24 KB will do (bench/stack measures it and bounds it from the machine code,
-   no proof does). The bounds by call, in bytes: open 4,120, connected 17,640, disconnected 17,272, ended 17,144, a question 17,512, a
-   per-client question 3,320, used rows 17,048, a rule line 4,280, templates 4,072, a JSON line 1,384, matching 152, all others at most
+   no proof does). The bounds by call, in bytes: open 3,976, connected 17,640, disconnected 17,272, ended 17,112, a question 17,512, a
+   per-client question 3,352, used rows 17,048, a rule line 4,136, templates 3,928, a JSON line 1,240, matching 152, all others at most
    24. A text, and a store, crosses as its address and its length in bytes, without a zero byte at the end. Nothing is kept after a call:
    no heap, no state between calls, no threads. A text is only read; a store is written by mqtt_acl_open and by the three events, and by
    nothing else. Calls that only read a store may run at the same time; one that writes it runs alone.
